@@ -1,0 +1,1 @@
+// Demand 3: what every run of every table comes to. Theorems only.
