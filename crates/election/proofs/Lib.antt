@@ -1,0 +1,4 @@
+pub mod Places
+pub mod Updates
+pub mod Directions
+pub mod Unheard
