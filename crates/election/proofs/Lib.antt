@@ -2,3 +2,9 @@ pub mod Places
 pub mod Updates
 pub mod Directions
 pub mod Unheard
+pub mod Messages
+pub mod Possible
+pub mod FreshIsLocal
+pub mod AfterBecomeRoot
+pub mod ChildMark
+pub mod AfterAddChild
