@@ -23,6 +23,12 @@ module _ (s : State) (i : ℕ) (b : Bool) where
   abbrev pub marked : ℕ → Bool → Bool
   marked = atDirection (s .child) i b true
 
+  pub marked-on : {j : ℕ} {c : Bool} → Same i b j c → marked j c ≡ true
+  marked-on = on-direction (s .child) i b true
+
+  pub marked-off : {j : ℕ} {c : Bool} → (Same i b j c → ⊥) → marked j c ≡ s .child j c
+  marked-off = off-direction (s .child) i b true
+
   -- no mark is taken away
   pub kept : (j : ℕ) (c : Bool) → s .child j c ≡ true → marked j c ≡ true
   kept j c h = direction-elim (s .child) i b true (λ r. r ≡ true) j c (λ e. refl) (λ n. h)
@@ -33,27 +39,27 @@ module _ (s : State) (i : ℕ) (b : Bool) where
 
   -- and is not the new one
   pub not-new : (j : ℕ) (c : Bool) → marked j c ≡ false → Same i b j c → ⊥
-  not-new j c h e = clash (on-direction (s .child) i b true e) h
+  not-new j c h e = clash (marked-on e) h
 
   -- a direction that is not the new one's reverse: its own reverse has child if it had
   pub reverse-unmarked : (j : ℕ) (c : Bool) → (Same i (not b) j c → ⊥) → s .child j (not c) ≡ false → marked j (not c) ≡ false
-  reverse-unmarked j c n h = off-direction (s .child) i b true (λ e. n (turned c e)) ∙ h
+  reverse-unmarked j c n h = marked-off (λ e. n (turned c e)) ∙ h
 
   module _ (t : Table) (L : Local t s) (back : s .child i (not b) ≡ false) where
     pub marked-oneWay : (j : ℕ) (c : Bool) → j < t .links → marked j c ≡ true → marked j (not c) ≡ false
     marked-oneWay j c lt h =
         either
-          (same i b j c)
-          (λ e.
-            reverse-unmarked j c (λ r. never-own b (sym (r .1) ∙ e .1)) (rw (e .0, e .1) back))
-          (λ n.
-            let had : s .child j c ≡ true = sym (off-direction (s .child) i b true n) ∙ h in
-            reverse-unmarked j c (λ r. clash (rw (r .0, r .1) at had) back) (L .oneWay j c lt had))
+        (same i b j c)
+        (λ e.
+        reverse-unmarked j c (λ r. never-own b (sym (r .1) ∙ e .1)) (rw (e .0, e .1) back))
+        (λ n.
+        let had : s .child j c ≡ true = sym (marked-off n) ∙ h in
+        reverse-unmarked j c (λ r. clash (rw (r .0, r .1) at had) back) (L .oneWay j c lt had))
 
     pub marked-asked : s .message i (not b) ≡ none → (j : ℕ) (c : Bool) → j < t .links → s .message j c ≡ request → marked j (not c) ≡ false
     marked-asked quiet j c lt h =
         reverse-unmarked
-          j
-          c
-          (λ r. loaded refl (sym (rw (r .0, r .1) at h) ∙ quiet))
-          (L .asked j c lt h)
+        j
+        c
+        (λ r. loaded refl (sym (rw (r .0, r .1) at h) ∙ quiet))
+        (L .asked j c lt h)

@@ -7,4 +7,5 @@ pub mod Possible
 pub mod FreshIsLocal
 pub mod AfterBecomeRoot
 pub mod ChildMark
+pub mod MessageRead
 pub mod AfterAddChild

@@ -6,6 +6,7 @@ use mathlib.Core.Logic.{_≢_, Dec·and}
 use native.Mathlib.Decide.{ℕ-discrete}
 use lib.Dec.{eqb}
 use borrow.Author.Tests.{eq-eqb, ne-eqb, eqb-true}
+use Rattle.paper.specs.Table.{Table, source, target}
 use Rattle.paper.specs.Steps.{at, atDirection}
 
 -- a test has one answer
@@ -24,6 +25,10 @@ passes false h = absurd (h refl)
 pub not-not : (b : Bool) → not (not b) ≡ b
 not-not true = refl
 not-not false = refl
+
+-- the reverse of a direction goes to where that comes from
+pub target-back : (t : Table) (i : ℕ) (b : Bool) → target t i (not b) ≡ source t i b
+target-back t i b = ap (t .end i) (not-not b)
 
 -- from a decision, in either case
 pub either : {A B : Type 0} → Dec A → (A → B) → ((A → ⊥) → B) → B
