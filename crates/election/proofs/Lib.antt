@@ -9,3 +9,6 @@ pub mod AfterBecomeRoot
 pub mod ChildMark
 pub mod MessageRead
 pub mod AfterAddChild
+pub mod AfterAcknowledge
+pub mod AfterResolve
+pub mod AfterChildrenKnown
