@@ -13,6 +13,9 @@ use Rattle.election.proofs.Messages.{loaded}
 pub turned : {i : ℕ} {b : Bool} {j : ℕ} (c : Bool) → Same i b j (not c) → Same i (not b) j c
 turned c e = (e .0, sym (not-not c) ∙ ap not (e .1))
 
+pub turned-back : {i : ℕ} {b : Bool} {j : ℕ} {c : Bool} → Same i (not b) j c → Same i b j (not c)
+turned-back {b} e = (e .0, ap not (e .1) ∙ not-not b)
+
 -- no direction is its own reverse
 pub never-own : (b : Bool) → not b ≡ b → ⊥
 never-own true e = clash e refl
