@@ -36,15 +36,15 @@ module _ (t : Table) (s : State) (below : EndsBelow t) (i : ℕ) (b : Bool) (L :
   others : (j : ℕ) (c : Bool) → j < t .links → target t j c ≡ target t i b → (Same i b j c → ⊥) → s .child j c ≡ true
   others =
       others-child
-        t
-        s
-        (target t i b)
-        (L .atMostOne (target t i b) (below i (not b) lt) target-stopped)
-        i
-        b
-        lt
-        refl
-        lacking
+      t
+      s
+      (target t i b)
+      (L .atMostOne (target t i b) (below i (not b) lt) target-stopped)
+      i
+      b
+      lt
+      refl
+      lacking
 
   -- who contends after the step
   abbrev contending′ : ℕ → Bool
@@ -57,30 +57,30 @@ module _ (t : Table) (s : State) (below : EndsBelow t) (i : ℕ) (b : Bool) (L :
   met′ : (j : ℕ) (c : Bool) → j < t .links → s .waiting (source t j c) ≡ false → s .waiting (target t j c) ≡ false → s .child j c ≡ false → s .child j (not c) ≡ false → unread s i b j c ≡ none → contending′ (target t j c) ≡ true
   met′ j c lj w w′ p q r =
       contends
-        (λ r. r ≡ true)
-        (target t j c)
-        (λ into.
-          either
-            (same i b j c)
-            (λ e.
-              ⊎-elim
-                (ap isRequest)
-                (λ a. clash (L .answered i b lt a) (rw (e .0, e .1) at q))
-                (kind (s .message i b) full))
-            (λ n. clash (others j c lj into n) p))
-        (λ other. L .met j c lj w w′ p q (sym (unread-off s i b (λ e. other (rw (e .0, e .1)))) ∙ r))
+      (λ r. r ≡ true)
+      (target t j c)
+      (λ into.
+      either
+      (same i b j c)
+      (λ e.
+      ⊎-elim
+      (ap isRequest)
+      (λ a. clash (L .answered i b lt a) (rw (e .0, e .1) at q))
+      (kind (s .message i b) full))
+      (λ n. clash (others j c lj into n) p))
+      (λ other. L .met j c lj w w′ p q (sym (unread-off s i b (λ e. other (rw (e .0, e .1)))) ∙ r))
 
   free′ : (j : ℕ) (c : Bool) → j < t .links → contending′ (source t j c) ≡ true → s .child j c ≡ false
   free′ j c lj =
       contends
-        (λ r. r ≡ true → s .child j c ≡ false)
-        (source t j c)
-        (λ from h.
-          either
-            (same i b j (not c))
-            (λ e. let back = turned c e in rw (back .0, back .1) (L .asked i b lt (requested (s .message i b) h)))
-            (λ n. ap (s .child j) (sym (not-not c)) ∙ L .oneWay j (not c) lj (others j (not c) lj (target-back t j c ∙ from) n)))
-        (λ other. L .free j c lj)
+      (λ r. r ≡ true → s .child j c ≡ false)
+      (source t j c)
+      (λ from h.
+      either
+      (same i b j (not c))
+      (λ e. let back = turned c e in rw (back .0, back .1) (L .asked i b lt (requested (s .message i b) h)))
+      (λ n. ap (s .child j) (sym (not-not c)) ∙ L .oneWay j (not c) lj (others j (not c) lj (target-back t j c ∙ from) n)))
+      (λ other. L .free j c lj)
 
   pub local-acknowledge : Local t (effect t s (acknowledge i b))
   unfolding effect
@@ -93,37 +93,37 @@ module _ (t : Table) (s : State) (below : EndsBelow t) (i : ℕ) (b : Bool) (L :
         asked = λ j c lj h. L .asked j c lj (was s i b request refl j c h);
         answered = λ j c lj h. L .answered j c lj (was s i b acknowledgement refl j c h);
         told =
-          λ j c lj w w′.
+            λ j c lj w w′.
             ⊎-elim
-              (λ r. inl (unread-off s i b (λ e. clash (rw (e .0, e .1) at w′) target-stopped) ∙ r))
-              (λ h. inr h)
-              (L .told j c lj w w′);
+            (λ r. inl (unread-off s i b (λ e. clash (rw (e .0, e .1) at w′) target-stopped) ∙ r))
+            (λ h. inr h)
+            (L .told j c lj w w′);
         met = met′;
         settled =
-          λ x lx. contends (λ r. r ≡ true → s .waiting x ≡ false) x (λ e h. rw e target-stopped) (λ n. L .settled x lx);
+            λ x lx. contends (λ r. r ≡ true → s .waiting x ≡ false) x (λ e h. rw e target-stopped) (λ n. L .settled x lx);
         free = free′;
         calm =
-          λ j c lj w.
+            λ j c lj w.
             contends
-              (λ r. r ≡ false)
-              (target t j c)
-              (λ into.
-                either
-                  (same i b j c)
-                  (λ e. clash (rw (e .0, e .1) at w) source-stopped)
-                  (λ n. clash (others j c lj into n) (L .childless j c lj w)))
-              (λ n. L .calm j c lj w);
+            (λ r. r ≡ false)
+            (target t j c)
+            (λ into.
+            either
+            (same i b j c)
+            (λ e. clash (rw (e .0, e .1) at w) source-stopped)
+            (λ n. clash (others j c lj into n) (L .childless j c lj w)))
+            (λ n. L .calm j c lj w);
         heard =
-          λ j c lj.
+            λ j c lj.
             contends
-              (λ r. r ≡ true → unread s i b j c ≡ none)
-              (target t j c)
-              (λ into h.
-                either
-                  (same i b j c)
-                  (unread-on s i b)
-                  (λ n. still-none s i b j c (L .quiet j c lj (others j c lj into n))))
-              (λ n h. still-none s i b j c (L .heard j c lj h));
+            (λ r. r ≡ true → unread s i b j c ≡ none)
+            (target t j c)
+            (λ into h.
+            either
+            (same i b j c)
+            (unread-on s i b)
+            (λ n. still-none s i b j c (L .quiet j c lj (others j c lj into n))))
+            (λ n h. still-none s i b j c (L .heard j c lj h));
         atMostOne = L .atMostOne;
         rooted = L .rooted;
       }

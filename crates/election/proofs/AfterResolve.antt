@@ -41,28 +41,28 @@ module _ (t : Table) (s : State) (below : EndsBelow t) (i : ℕ) (b : Bool) (L :
   others : (j : ℕ) (c : Bool) → j < t .links → target t j c ≡ target t i b → (Same i b j c → ⊥) → s .child j c ≡ true
   others =
       others-child
-        t
-        s
-        (target t i b)
-        (L .atMostOne (target t i b) (below i (not b) lt) target-stopped)
-        i
-        b
-        lt
-        refl
-        here
+      t
+      s
+      (target t i b)
+      (L .atMostOne (target t i b) (below i (not b) lt) target-stopped)
+      i
+      b
+      lt
+      refl
+      here
 
   others-back : (j : ℕ) (c : Bool) → j < t .links → target t j c ≡ source t i b → (Same i (not b) j c → ⊥) → s .child j c ≡ true
   others-back =
       others-child
-        t
-        s
-        (source t i b)
-        (L .atMostOne (source t i b) (below i b lt) source-stopped)
-        i
-        (not b)
-        lt
-        (target-back t i b)
-        back
+      t
+      s
+      (source t i b)
+      (L .atMostOne (source t i b) (below i b lt) source-stopped)
+      i
+      (not b)
+      lt
+      (target-back t i b)
+      back
 
   -- who contends after the step: neither end, and who else did before
   abbrev contending′ : ℕ → Bool
@@ -71,13 +71,13 @@ module _ (t : Table) (s : State) (below : EndsBelow t) (i : ℕ) (b : Bool) (L :
   contends : (P : Bool → Type 0) (x : ℕ) → ((x ≡ source t i b) ⊎ (x ≡ target t i b) → P false) → ((x ≡ source t i b → ⊥) → (x ≡ target t i b → ⊥) → P (s .contending x)) → P (contending′ x)
   contends P x end other =
       at-elim
-        (at (s .contending) (source t i b) false)
-        (target t i b)
-        false
-        P
-        x
-        (λ e. end (inr e))
-        (λ n. at-elim (s .contending) (source t i b) false P x (λ e. end (inl e)) (λ n′. other n′ n))
+      (at (s .contending) (source t i b) false)
+      (target t i b)
+      false
+      P
+      x
+      (λ e. end (inr e))
+      (λ n. at-elim (s .contending) (source t i b) false P x (λ e. end (inl e)) (λ n′. other n′ n))
 
   pub local-resolve : Local t (effect t s (resolve i b))
   unfolding effect
@@ -85,47 +85,47 @@ module _ (t : Table) (s : State) (below : EndsBelow t) (i : ℕ) (b : Bool) (L :
       record {
         silent = L .silent;
         childless =
-          λ j c lj w.
+            λ j c lj w.
             either
-              (same i b j c)
-              (λ e. clash (rw (e .0, e .1) at w) source-stopped)
-              (λ n. marked-off s i b n ∙ L .childless j c lj w);
+            (same i b j c)
+            (λ e. clash (rw (e .0, e .1) at w) source-stopped)
+            (λ n. marked-off s i b n ∙ L .childless j c lj w);
         oneWay = marked-oneWay s i b t L back;
         quiet =
-          λ j c lj h.
+            λ j c lj h.
             either
-              (same i b j c)
-              (λ e. rw (e .0, e .1) (L .heard i b lt target-contends))
-              (λ n. L .quiet j c lj (sym (marked-off s i b n) ∙ h));
+            (same i b j c)
+            (λ e. rw (e .0, e .1) (L .heard i b lt target-contends))
+            (λ n. L .quiet j c lj (sym (marked-off s i b n) ∙ h));
         asked = marked-asked s i b t L back (L .heard i (not b) lt (ap (s .contending) (target-back t i b) ∙ source-contends));
         answered = λ j c lj h. kept s i b j (not c) (L .answered j c lj h);
         told = λ j c lj w w′. ⊎-elim (λ r. inl r) (λ h. inr (kept s i b j c h)) (L .told j c lj w w′);
         met =
-          λ j c lj w w′ p q r.
+            λ j c lj w w′ p q r.
             contends
-              (λ r. r ≡ true)
-              (target t j c)
-              (λ e.
-                clash
-                  (⊎-elim
-                    (λ from. others-back j c lj from (λ d. not-new s i b j (not c) q (turned-back d)))
-                    (λ into. others j c lj into (not-new s i b j c p))
-                    e)
-                  (absent s i b j c p))
-              (λ n n′. L .met j c lj w w′ (absent s i b j c p) (absent s i b j (not c) q) r);
+            (λ r. r ≡ true)
+            (target t j c)
+            (λ e.
+            clash
+            (⊎-elim
+            (λ from. others-back j c lj from (λ d. not-new s i b j (not c) q (turned-back d)))
+            (λ into. others j c lj into (not-new s i b j c p))
+            e)
+            (absent s i b j c p))
+            (λ n n′. L .met j c lj w w′ (absent s i b j c p) (absent s i b j (not c) q) r);
         settled = λ x lx. contends (λ r. r ≡ true → s .waiting x ≡ false) x (λ e h. clash h refl) (λ n n′. L .settled x lx);
         free =
-          λ j c lj.
+            λ j c lj.
             contends
-              (λ r. r ≡ true → marked s i b j c ≡ false)
-              (source t j c)
-              (λ e h. clash h refl)
-              (λ n n′ h. marked-off s i b (λ e. n (rw (e .0, e .1))) ∙ L .free j c lj h);
+            (λ r. r ≡ true → marked s i b j c ≡ false)
+            (source t j c)
+            (λ e h. clash h refl)
+            (λ n n′ h. marked-off s i b (λ e. n (rw (e .0, e .1))) ∙ L .free j c lj h);
         calm = λ j c lj w. contends (λ r. r ≡ false) (target t j c) (λ e. refl) (λ n n′. L .calm j c lj w);
         heard =
-          λ j c lj.
+            λ j c lj.
             contends (λ r. r ≡ true → s .message j c ≡ none) (target t j c) (λ e h. clash h refl) (λ n n′. L .heard j c lj);
         atMostOne =
-          λ x lx w. le-trans (unheard-le t s (effect t s (resolve i b)) x (λ j c lj. kept s i b j c)) (L .atMostOne x lx w);
+            λ x lx w. le-trans (unheard-le t s (effect t s (resolve i b)) x (λ j c lj. kept s i b j c)) (L .atMostOne x lx w);
         rooted = λ j c lj h. kept s i b j c (L .rooted j c lj h);
       }
