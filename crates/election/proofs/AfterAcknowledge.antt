@@ -1,19 +1,18 @@
 -- The local facts are kept when a message is acknowledged.
-use Prim.Native.Nat.{ℕ, _≤_, _<_}
+use Prim.Native.Nat.{ℕ, _<_}
 use mathlib.Core.Bool.{Bool, true, false, not}
 use mathlib.Core.Path.{_≡_, refl, sym, ap, _∙_}
-use mathlib.Core.Logic.{_⊎_, inl, inr, ⊎-elim}
-use native.Mathlib.Decide.{ℕ-discrete}
+use mathlib.Core.Logic.{inl, inr, ⊎-elim}
 use Rattle.paper.specs.Table.{Table, source, target, EndsBelow}
-use Rattle.paper.specs.State.{Message, none, request, acknowledgement, State}
+use Rattle.paper.specs.State.{none, request, acknowledgement, State}
 use Rattle.paper.specs.Steps.{carries, isRequest, at, acknowledge, possible, effect}
 use Rattle.election.specs.Local.{Local}
-use Rattle.election.proofs.Updates.{clash, fails, not-not, target-back, either, at-place, at-other, at-elim, Same, same}
+use Rattle.election.proofs.Updates.{clash, fails, not-not, target-back, either, at-elim, Same, same}
 use Rattle.election.proofs.Messages.{loaded, kind, requested}
 use Rattle.election.proofs.Possible.{acknowledge-possible}
 use Rattle.election.proofs.ChildMark.{turned}
 use Rattle.election.proofs.MessageRead.{unread, unread-on, unread-off, still-none, was}
-use Rattle.election.proofs.Unheard.{others-child}
+use Rattle.election.proofs.OneUnheard.{rest-child}
 
 module _ (t : Table) (s : State) (below : EndsBelow t) (i : ℕ) (b : Bool) (L : Local t s) (can : possible t s (acknowledge i b) ≡ true) where
   lt : i < t .links
@@ -34,17 +33,7 @@ module _ (t : Table) (s : State) (below : EndsBelow t) (i : ℕ) (b : Bool) (L :
   lacking = fails (s .child i b) (λ h. loaded full (L .quiet i b lt h))
 
   others : (j : ℕ) (c : Bool) → j < t .links → target t j c ≡ target t i b → (Same i b j c → ⊥) → s .child j c ≡ true
-  others =
-      others-child
-      t
-      s
-      (target t i b)
-      (L .atMostOne (target t i b) (below i (not b) lt) target-stopped)
-      i
-      b
-      lt
-      refl
-      lacking
+  others = rest-child t s below L (target t i b) target-stopped i b lt refl lacking
 
   -- who contends after the step
   abbrev contending′ : ℕ → Bool

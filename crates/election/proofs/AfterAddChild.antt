@@ -1,14 +1,14 @@
 -- The local facts are kept when a child is added.
-use Prim.Native.Nat.{ℕ, _≤_, _<_}
+use Prim.Native.Nat.{ℕ, _<_}
 use mathlib.Core.Bool.{Bool, true, false, not}
 use mathlib.Core.Path.{_≡_, refl, sym, ap, _∙_}
-use mathlib.Core.Logic.{_⊎_, inl, inr, ⊎-elim}
+use mathlib.Core.Logic.{inl, inr, ⊎-elim}
 use native.Mathlib.Nat.{le-trans}
 use Rattle.paper.specs.Table.{Table, source, target}
-use Rattle.paper.specs.State.{none, request, acknowledgement, State}
-use Rattle.paper.specs.Steps.{carries, addChild, possible, effect}
+use Rattle.paper.specs.State.{request, acknowledgement, State}
+use Rattle.paper.specs.Steps.{addChild, possible, effect}
 use Rattle.election.specs.Local.{Local}
-use Rattle.election.proofs.Updates.{clash, fails, target-back, either, Same, same}
+use Rattle.election.proofs.Updates.{clash, fails, target-back, either, same}
 use Rattle.election.proofs.Messages.{loaded}
 use Rattle.election.proofs.Possible.{addChild-possible}
 use Rattle.election.proofs.ChildMark.{marked-on, marked-off, kept, absent, not-new, marked-oneWay, marked-asked}

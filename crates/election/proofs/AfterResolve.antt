@@ -1,17 +1,18 @@
 -- The local facts are kept when a contention is resolved.
-use Prim.Native.Nat.{ℕ, _≤_, _<_}
+use Prim.Native.Nat.{ℕ, _<_}
 use mathlib.Core.Bool.{Bool, true, false, not}
 use mathlib.Core.Path.{_≡_, refl, sym, ap, _∙_}
 use mathlib.Core.Logic.{_⊎_, inl, inr, ⊎-elim}
 use native.Mathlib.Nat.{le-trans}
 use Rattle.paper.specs.Table.{Table, source, target, EndsBelow}
-use Rattle.paper.specs.State.{none, request, acknowledgement, State}
+use Rattle.paper.specs.State.{none, State}
 use Rattle.paper.specs.Steps.{at, resolve, possible, effect}
 use Rattle.election.specs.Local.{Local}
-use Rattle.election.proofs.Updates.{clash, fails, not-not, target-back, either, at-place, at-other, at-elim, Same, same}
+use Rattle.election.proofs.Updates.{clash, target-back, either, at-elim, Same, same}
 use Rattle.election.proofs.Possible.{resolve-possible}
-use Rattle.election.proofs.ChildMark.{turned-back, marked, marked-on, marked-off, kept, absent, not-new, marked-oneWay, marked-asked}
-use Rattle.election.proofs.Unheard.{unheard-le, others-child}
+use Rattle.election.proofs.ChildMark.{turned-back, marked, marked-off, kept, absent, not-new, marked-oneWay, marked-asked}
+use Rattle.election.proofs.Unheard.{unheard-le}
+use Rattle.election.proofs.OneUnheard.{rest-child}
 
 module _ (t : Table) (s : State) (below : EndsBelow t) (i : ℕ) (b : Bool) (L : Local t s) (can : possible t s (resolve i b) ≡ true) where
   lt : i < t .links
@@ -39,30 +40,10 @@ module _ (t : Table) (s : State) (below : EndsBelow t) (i : ℕ) (b : Bool) (L :
 
   -- every other direction into either end is child
   others : (j : ℕ) (c : Bool) → j < t .links → target t j c ≡ target t i b → (Same i b j c → ⊥) → s .child j c ≡ true
-  others =
-      others-child
-      t
-      s
-      (target t i b)
-      (L .atMostOne (target t i b) (below i (not b) lt) target-stopped)
-      i
-      b
-      lt
-      refl
-      here
+  others = rest-child t s below L (target t i b) target-stopped i b lt refl here
 
   others-back : (j : ℕ) (c : Bool) → j < t .links → target t j c ≡ source t i b → (Same i (not b) j c → ⊥) → s .child j c ≡ true
-  others-back =
-      others-child
-      t
-      s
-      (source t i b)
-      (L .atMostOne (source t i b) (below i b lt) source-stopped)
-      i
-      (not b)
-      lt
-      (target-back t i b)
-      back
+  others-back = rest-child t s below L (source t i b) source-stopped i (not b) lt (target-back t i b) back
 
   -- who contends after the step: neither end, and who else did before
   abbrev contending′ : ℕ → Bool

@@ -1,9 +1,9 @@
 -- A child mark that is added to a direction whose reverse has neither child nor message.
-use Prim.Native.Nat.{ℕ, _≤_, _<_}
+use Prim.Native.Nat.{ℕ, _<_}
 use mathlib.Core.Bool.{Bool, true, false, not}
 use mathlib.Core.Path.{_≡_, refl, sym, ap, _∙_}
-use Rattle.paper.specs.Table.{Table, source, target}
-use Rattle.paper.specs.State.{none, request, acknowledgement, State}
+use Rattle.paper.specs.Table.{Table}
+use Rattle.paper.specs.State.{none, request, State}
 use Rattle.paper.specs.Steps.{atDirection}
 use Rattle.election.specs.Local.{Local}
 use Rattle.election.proofs.Updates.{clash, fails, not-not, either, Same, same, on-direction, off-direction, direction-elim}

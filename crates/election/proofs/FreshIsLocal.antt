@@ -1,10 +1,10 @@
 -- The local facts hold in the fresh state.
-use Prim.Native.Nat.{ℕ, _≤_, _<_}
-use mathlib.Core.Bool.{Bool, true, false}
+use Prim.Native.Nat.{ℕ, _<_}
+use mathlib.Core.Bool.{Bool, true}
 use mathlib.Core.Path.{_≡_, refl, sym}
 use borrow.Author.Tests.{lt-ltb}
 use Rattle.paper.specs.Table.{Table, source, EndsBelow}
-use Rattle.paper.specs.State.{none, request, acknowledgement, State, fresh}
+use Rattle.paper.specs.State.{fresh}
 use Rattle.election.specs.Local.{Local}
 use Rattle.election.proofs.Updates.{clash}
 use Rattle.election.proofs.Messages.{loaded}

@@ -6,9 +6,12 @@ pub mod Messages
 pub mod Possible
 pub mod FreshIsLocal
 pub mod AfterBecomeRoot
+pub mod OneUnheard
 pub mod ChildMark
 pub mod MessageRead
 pub mod AfterAddChild
 pub mod AfterAcknowledge
 pub mod AfterResolve
 pub mod AfterChildrenKnown
+pub mod LocalRuns
+pub mod PublishedRuns
