@@ -46,14 +46,11 @@ module _ (t : Table) (s : State) (below : EndsBelow t) (i : ℕ) (b : Bool) (L :
   met′ : (j : ℕ) (c : Bool) → j < t .links → s .waiting (source t j c) ≡ false → s .waiting (target t j c) ≡ false → s .child j c ≡ false → s .child j (not c) ≡ false → unread s i b j c ≡ none → contending′ (target t j c) ≡ true
   met′ j c lj w w′ p q r =
       contends
-      (λ r. r ≡ true)
-      (target t j c)
+      (λ r. r ≡ true) (target t j c)
       (λ into.
-      either
-      (same i b j c)
+      either (same i b j c)
       (λ e.
-      ⊎-elim
-      (ap isRequest)
+      ⊎-elim (ap isRequest)
       (λ a. clash (L .answered i b lt a) (rw (e .0, e .1) at q))
       (kind (s .message i b) full))
       (λ n. clash (others j c lj into n) p))
@@ -62,8 +59,7 @@ module _ (t : Table) (s : State) (below : EndsBelow t) (i : ℕ) (b : Bool) (L :
   free′ : (j : ℕ) (c : Bool) → j < t .links → contending′ (source t j c) ≡ true → s .child j c ≡ false
   free′ j c lj =
       contends
-      (λ r. r ≡ true → s .child j c ≡ false)
-      (source t j c)
+      (λ r. r ≡ true → s .child j c ≡ false) (source t j c)
       (λ from h.
       either
       (same i b j (not c))
@@ -94,23 +90,18 @@ module _ (t : Table) (s : State) (below : EndsBelow t) (i : ℕ) (b : Bool) (L :
         calm =
             λ j c lj w.
             contends
-            (λ r. r ≡ false)
-            (target t j c)
+            (λ r. r ≡ false) (target t j c)
             (λ into.
-            either
-            (same i b j c)
+            either (same i b j c)
             (λ e. clash (rw (e .0, e .1) at w) source-stopped)
             (λ n. clash (others j c lj into n) (L .childless j c lj w)))
             (λ n. L .calm j c lj w);
         heard =
             λ j c lj.
             contends
-            (λ r. r ≡ true → unread s i b j c ≡ none)
-            (target t j c)
+            (λ r. r ≡ true → unread s i b j c ≡ none) (target t j c)
             (λ into h.
-            either
-            (same i b j c)
-            (unread-on s i b)
+            either (same i b j c) (unread-on s i b)
             (λ n. still-none s i b j c (L .quiet j c lj (others j c lj into n))))
             (λ n h. still-none s i b j c (L .heard j c lj h));
         atMostOne = L .atMostOne;

@@ -29,12 +29,8 @@ local-becomeRoot t s x L can =
       atMostOne = L .atMostOne;
       rooted =
           λ i b lt.
-          at-elim
-          (s .root)
-          x
-          true
-          (λ r. r ≡ true → s .child i b ≡ true)
-          (target t i b)
+          at-elim (s .root) x true
+          (λ r. r ≡ true → s .child i b ≡ true) (target t i b)
           (λ into h. all-child t s x (becomeRoot-possible t s x can .2) i b lt into)
           (λ other. L .rooted i b lt);
     }

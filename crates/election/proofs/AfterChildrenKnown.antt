@@ -53,10 +53,7 @@ module _ (t : Table) (s : State) (x : ℕ) (L : Local t s) (can : possible t s (
   met′ : (j : ℕ) (c : Bool) → j < t .links → waiting′ (source t j c) ≡ false → waiting′ (target t j c) ≡ false → s .child j c ≡ false → s .child j (not c) ≡ false → sent j c ≡ none → s .contending (target t j c) ≡ true
   met′ j c lj w w′ p q =
       sent-elim
-      (λ m. m ≡ none → s .contending (target t j c) ≡ true)
-      j
-      c
-      lj
+      (λ m. m ≡ none → s .contending (target t j c) ≡ true) j c lj
       (λ e. loaded (sends-something (s .child j (not c))))
       (λ n r.
       either
@@ -75,10 +72,7 @@ module _ (t : Table) (s : State) (x : ℕ) (L : Local t s) (can : possible t s (
         silent =
             λ j c lj w.
             sent-elim
-            (λ m. m ≡ none)
-            j
-            c
-            lj
+            (λ m. m ≡ none) j c lj
             (λ e. absurd (not-mover (source t j c) w e))
             (λ n. L .silent j c lj (did (source t j c) w));
         childless = λ j c lj w. L .childless j c lj (did (source t j c) w);
@@ -86,37 +80,25 @@ module _ (t : Table) (s : State) (x : ℕ) (L : Local t s) (can : possible t s (
         quiet =
             λ j c lj h.
             sent-elim
-            (λ m. m ≡ none)
-            j
-            c
-            lj
+            (λ m. m ≡ none) j c lj
             (λ e. clash h (L .childless j c lj (mover (source t j c) e)))
             (λ n. L .quiet j c lj h);
         asked =
             λ j c lj.
             sent-elim
-            (λ m. m ≡ request → s .child j (not c) ≡ false)
-            j
-            c
-            lj
+            (λ m. m ≡ request → s .child j (not c) ≡ false) j c lj
             (λ e. sends-request (s .child j (not c)))
             (λ n. L .asked j c lj);
         answered =
             λ j c lj.
             sent-elim
-            (λ m. m ≡ acknowledgement → s .child j (not c) ≡ true)
-            j
-            c
-            lj
+            (λ m. m ≡ acknowledgement → s .child j (not c) ≡ true) j c lj
             (λ e. sends-acknowledgement (s .child j (not c)))
             (λ n. L .answered j c lj);
         told =
             λ j c lj w w′.
             sent-elim
-            (λ m. (m ≡ request) ⊎ (s .child j c ≡ true))
-            j
-            c
-            lj
+            (λ m. (m ≡ request) ⊎ (s .child j c ≡ true)) j c lj
             (λ e. inl (ap sends (L .childless j (not c) lj (did (target t j c) w′))))
             (λ n. L .told j c lj (had (source t j c) n w) (did (target t j c) w′));
         met = met′;
@@ -126,17 +108,13 @@ module _ (t : Table) (s : State) (x : ℕ) (L : Local t s) (can : possible t s (
         heard =
             λ j c lj h.
             sent-elim
-            (λ m. m ≡ none)
-            j
-            c
-            lj
+            (λ m. m ≡ none) j c lj
             (λ e. clash h (L .calm j c lj (mover (source t j c) e)))
             (λ n. L .heard j c lj h);
         atMostOne =
             λ z lz.
             waits
-            (λ r. r ≡ false → unheard t s z ≤ 1)
-            z
+            (λ r. r ≡ false → unheard t s z ≤ 1) z
             (λ e h. rw e (childrenKnown-possible t s x can .2))
             (λ n. L .atMostOne z lz);
         rooted = L .rooted;

@@ -3,15 +3,13 @@ use Prim.Native.Nat.{ℕ, _<_}
 use mathlib.Core.Bool.{Bool, true, false, not}
 use mathlib.Core.Path.{_≡_, refl, sym, ap, _∙_}
 use mathlib.Core.Logic.{_⊎_, inl, inr, ⊎-elim}
-use native.Mathlib.Nat.{le-trans}
 use Rattle.paper.specs.Table.{Table, source, target, EndsBelow}
-use Rattle.paper.specs.State.{none, State}
+use Rattle.paper.specs.State.{State}
 use Rattle.paper.specs.Steps.{at, resolve, possible, effect}
 use Rattle.election.specs.Local.{Local}
 use Rattle.election.proofs.Updates.{clash, target-back, either, at-elim, Same, same}
 use Rattle.election.proofs.Possible.{resolve-possible}
-use Rattle.election.proofs.ChildMark.{turned-back, marked, marked-off, kept, absent, not-new, marked-oneWay, marked-asked}
-use Rattle.election.proofs.Unheard.{unheard-le}
+use Rattle.election.proofs.ChildMark.{turned-back, marked-off, kept, absent, not-new, marked-sourced, marked-atMostOne, marked-oneWay, marked-asked}
 use Rattle.election.proofs.OneUnheard.{rest-child}
 
 module _ (t : Table) (s : State) (below : EndsBelow t) (i : ℕ) (b : Bool) (L : Local t s) (can : possible t s (resolve i b) ≡ true) where
@@ -52,30 +50,24 @@ module _ (t : Table) (s : State) (below : EndsBelow t) (i : ℕ) (b : Bool) (L :
   contends : (P : Bool → Type 0) (x : ℕ) → ((x ≡ source t i b) ⊎ (x ≡ target t i b) → P false) → ((x ≡ source t i b → ⊥) → (x ≡ target t i b → ⊥) → P (s .contending x)) → P (contending′ x)
   contends P x end other =
       at-elim
-      (at (s .contending) (source t i b) false)
-      (target t i b)
-      false
-      P
-      x
+      (at (s .contending) (source t i b) false) (target t i b) false P x
       (λ e. end (inr e))
       (λ n. at-elim (s .contending) (source t i b) false P x (λ e. end (inl e)) (λ n′. other n′ n))
+
+  -- who contends did before
+  did : (x : ℕ) → contending′ x ≡ true → s .contending x ≡ true
+  did x = contends (λ r. r ≡ true → s .contending x ≡ true) x (λ e h. clash h refl) (λ n n′ h. h)
 
   pub local-resolve : Local t (effect t s (resolve i b))
   unfolding effect
   local-resolve =
       record {
         silent = L .silent;
-        childless =
-            λ j c lj w.
-            either
-            (same i b j c)
-            (λ e. clash (rw (e .0, e .1) at w) source-stopped)
-            (λ n. marked-off s i b n ∙ L .childless j c lj w);
+        childless = marked-sourced s i b t (s .waiting) source-stopped (L .childless);
         oneWay = marked-oneWay s i b t L back;
         quiet =
             λ j c lj h.
-            either
-            (same i b j c)
+            either (same i b j c)
             (λ e. rw (e .0, e .1) (L .heard i b lt target-contends))
             (λ n. L .quiet j c lj (sym (marked-off s i b n) ∙ h));
         asked = marked-asked s i b t L back (L .heard i (not b) lt (ap (s .contending) (target-back t i b) ∙ source-contends));
@@ -84,8 +76,7 @@ module _ (t : Table) (s : State) (below : EndsBelow t) (i : ℕ) (b : Bool) (L :
         met =
             λ j c lj w w′ p q r.
             contends
-            (λ r. r ≡ true)
-            (target t j c)
+            (λ r. r ≡ true) (target t j c)
             (λ e.
             clash
             (⊎-elim
@@ -94,19 +85,13 @@ module _ (t : Table) (s : State) (below : EndsBelow t) (i : ℕ) (b : Bool) (L :
             e)
             (absent s i b j c p))
             (λ n n′. L .met j c lj w w′ (absent s i b j c p) (absent s i b j (not c) q) r);
-        settled = λ x lx. contends (λ r. r ≡ true → s .waiting x ≡ false) x (λ e h. clash h refl) (λ n n′. L .settled x lx);
+        settled = λ x lx h. L .settled x lx (did x h);
         free =
-            λ j c lj.
-            contends
-            (λ r. r ≡ true → marked s i b j c ≡ false)
-            (source t j c)
-            (λ e h. clash h refl)
-            (λ n n′ h. marked-off s i b (λ e. n (rw (e .0, e .1))) ∙ L .free j c lj h);
+            marked-sourced s i b t contending′
+            (contends (λ r. r ≡ false) (source t i b) (λ e. refl) (λ n n′. absurd (n refl)))
+            (λ j c lj h. L .free j c lj (did (source t j c) h));
         calm = λ j c lj w. contends (λ r. r ≡ false) (target t j c) (λ e. refl) (λ n n′. L .calm j c lj w);
-        heard =
-            λ j c lj.
-            contends (λ r. r ≡ true → s .message j c ≡ none) (target t j c) (λ e h. clash h refl) (λ n n′. L .heard j c lj);
-        atMostOne =
-            λ x lx w. le-trans (unheard-le t s (effect t s (resolve i b)) x (λ j c lj. kept s i b j c)) (L .atMostOne x lx w);
+        heard = λ j c lj h. L .heard j c lj (did (target t j c) h);
+        atMostOne = marked-atMostOne s i b t L;
         rooted = λ j c lj h. kept s i b j c (L .rooted j c lj h);
       }

@@ -23,8 +23,7 @@ published t s below L =
       i4 =
           λ i b j c v li lj into into′ n.
           either
-          (Bool-discrete (s .waiting v) true)
-          inl
+          (Bool-discrete (s .waiting v) true) inl
           (λ w.
           either
           (Bool-discrete (s .child i b) true)
@@ -43,21 +42,8 @@ published t s below L =
       i13 = L .rooted;
       i14 =
           λ i b j c li lj h from n.
-          rest-child
-          t
-          s
-          below
-          L
-          (source t i b)
-          (fails (s .waiting (source t i b)) (λ w. clash h (L .childless i b li w)))
-          i
-          (not b)
-          li
-          (target-back t i b)
-          (L .oneWay i b li h)
-          j
-          c
-          lj
+          rest-child t s below L (source t i b)
+          (fails (s .waiting (source t i b)) (λ w. clash h (L .childless i b li w))) i (not b) li (target-back t i b) (L .oneWay i b li h) j c lj
           (sym from)
           n;
       i16 = λ i b lt w p r. passes (s .waiting (source t i b)) (λ w′. untold i b lt w′ w r p);

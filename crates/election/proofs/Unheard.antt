@@ -22,15 +22,13 @@ module _ (t : Table) (s : State) (x : ℕ) where
   -- none unheard: every direction into x is child
   pub all-child : unheard t s x ≡ 0 → (i : ℕ) (b : Bool) → i < t .links → target t i b ≡ x → s .child i b ≡ true
   all-child none i b lt into =
-      passes
-      (s .child i b)
+      passes (s .child i b)
       (λ e. let one = directions-one t (lacks t s x) i b lt (lacking i b into e) in omega arith)
 
   -- at most one unheard: every direction into x but that one is child
   pub others-child : unheard t s x ≤ 1 → (i : ℕ) (b : Bool) → i < t .links → target t i b ≡ x → s .child i b ≡ false → (j : ℕ) (c : Bool) → j < t .links → target t j c ≡ x → (Same i b j c → ⊥) → s .child j c ≡ true
   others-child one i b li into e j c lj into′ n =
-      passes
-      (s .child j c)
+      passes (s .child j c)
       (λ e′.
       let two = directions-two t (lacks t s x) i b j c li lj (lacking i b into e) (lacking j c into′ e′) n in
       omega arith)

@@ -81,7 +81,6 @@ module _ {A : Type 0} (f : ℕ → Bool → A) (i : ℕ) (b : Bool) (a : A) wher
 
   pub direction-elim : (P : A → Type 0) (j : ℕ) (c : Bool) → (Same i b j c → P a) → ((Same i b j c → ⊥) → P (f j c)) → P (atDirection f i b a j c)
   direction-elim P j c on off =
-      either
-      (same i b j c)
+      either (same i b j c)
       (λ e. subst P (sym (on-direction e)) (on e))
       (λ n. subst P (sym (off-direction n)) (off n))
