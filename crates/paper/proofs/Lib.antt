@@ -3,3 +3,5 @@ pub mod Tests
 pub mod OnePiece
 pub mod Changes
 pub mod Images
+pub mod Passing
+pub mod Published

@@ -12,4 +12,5 @@ pub mod Calls
 pub mod Batch
 pub mod Lines
 pub mod Meanings
+pub mod Published
 pub mod Replays
