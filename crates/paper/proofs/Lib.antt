@@ -5,3 +5,4 @@ pub mod Changes
 pub mod Images
 pub mod Passing
 pub mod Published
+pub mod Moving

@@ -11,7 +11,7 @@ use Rattle.paper.specs.State.{Message, none, request, acknowledgement, S
 use Rattle.paper.specs.Steps.{Step, childrenKnown, addChild, acknowledge, resolve, becomeRoot, possible, effect, unheard, carries, isRequest, sends, outOf, at, atDirection}
 use Rattle.paper.specs.Meanings.{SoundMarks}
 use Rattle.paper.specs.Published.{Edge, InV, InE, To, source, target, inverse, from, Variables, empty, hd, tl, append, assignEdge, Init, Action, ADD-CHILD, ACK, ROOT, CHILDREN-KNOWN, RESOLVE-CONTENTION, Pre, Eff, queue, queues, actionOf, AsPublished}
-use Rattle.paper.proofs.Tests.{and-left, and-right, and-both}
+use Rattle.paper.proofs.Tests.{and-left, and-right, and-both, either}
 use Rattle.paper.proofs.Passing.{none-passes, pass-none, one-passes, pass-one}
 
 -- a test of three parts, and what each says
@@ -50,10 +50,6 @@ lacks-to t s x i b h e = (h, eqb-true _ _ (and-left (eqb (t .end i (not b)) x) _
 
 lacks-none : (t : Table) (s : State) (x i : ℕ) (b : Bool) → lacks t s x i b ≡ true → s .child i b ≡ true → ⊥
 lacks-none t s x i b e h = true≢false (sym h ∙ not-true _ (and-right (eqb (t .end i (not b)) x) _ e))
-
-either : (b : Bool) → (b ≡ true) ⊎ (b ≡ false)
-either true = inl refl
-either false = inr refl
 
 heard-by-all : (t : Table) (s : State) (x : ℕ) → (eqb (unheard t s x) 0 ≡ true) ↔ ((e : Edge) → To t x e → s .child (e .link) (e .end) ≡ true)
 heard-by-all t s x = (all-heard, none-lacks)
