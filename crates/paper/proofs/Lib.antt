@@ -6,3 +6,4 @@ pub mod Images
 pub mod Passing
 pub mod Published
 pub mod Moving
+pub mod Readings

@@ -8,15 +8,11 @@ use native.Mathlib.Omega.{arith}
 use native.Mathlib.Decide.{ℕ-discrete}
 use Rattle.counting.specs.Count.{all}
 use Rattle.paper.specs.Table.{Table, source, target, Joined, here, along, OnePiece, labels, onePiece}
-use Rattle.paper.proofs.Tests.{all-true, all-holds}
+use Rattle.paper.proofs.Tests.{not-not, all-true, all-holds}
 
 pub joined-trans : {t : Table} {x y z : ℕ} → Joined t x y → Joined t y z → Joined t x z
 joined-trans p here = p
 joined-trans p (along q i b h s e) = along (joined-trans p q) i b h s e
-
-not-not : (b : Bool) → not (not b) ≡ b
-not-not true = refl
-not-not false = refl
 
 pub joined-sym : {t : Table} {x y : ℕ} → Joined t x y → Joined t y x
 joined-sym here = here
