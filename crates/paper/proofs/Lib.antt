@@ -7,3 +7,4 @@ pub mod Passing
 pub mod Published
 pub mod Moving
 pub mod Readings
+pub mod Listed
