@@ -8,3 +8,4 @@ pub mod Published
 pub mod Moving
 pub mod Readings
 pub mod Listed
+pub mod Decimal

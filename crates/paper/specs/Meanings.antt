@@ -1,14 +1,16 @@
 -- What the computed tests of the other files mean, in plain terms.
-use Prim.Native.Nat.{ℕ, suc, _+_, _*_, _≤_, _<_}
+use Prim.Native.Nat.{ℕ, suc, _+_, _-_, _*_, _≤_, _<_}
 use mathlib.Core.Bool.{Bool, true, false, not}
 use mathlib.Core.Path.{_≡_}
 use mathlib.Core.Logic.{_⊎_, _↔_}
 use mathlib.Core.List.{List, [], _∷_}
+use Rattle.paper.specs.Upload.{byteAt}
 use Rattle.paper.specs.Table.{Table, source, target}
 use Rattle.paper.specs.State.{State, none}
 use Rattle.paper.specs.Steps.{Step, childrenKnown, addChild, acknowledge, resolve, becomeRoot, possible}
 use Rattle.paper.specs.Report.{moving}
 use Rattle.paper.specs.Actions.{names, reading, refusedBy, listed}
+use Rattle.paper.specs.Lines.{digit}
 
 -- no mark and no message outside the table
 pub record Shown (t : Table) (s : State) : Type 0 where
@@ -79,3 +81,21 @@ pub record ListsSteps (t : Table) (s : State) : Type 0 where
   pub once : (x : Step) (kind a b : ℕ) → reading t kind a b ≡ names x → (kind ≡ kindOf x) × (a ≡ firstOf t x) × (b ≡ secondOf t x)
   -- the list is empty exactly when no step is possible
   pub empty : (listed t s ≡ []) ↔ (moving t s ≡ false)
+
+-- every byte is a digit
+abbrev pub Digits : List ℕ → Type 0
+Digits [] = Unit {0}
+Digits (d ∷ rest) = (digit 0 ≤ d) × (d ≤ digit 9) × Digits rest
+
+-- the number that digits show behind those already read
+abbrev pub valueFrom : ℕ → List ℕ → ℕ
+valueFrom read [] = read
+valueFrom read (d ∷ rest) = valueFrom (10 * read + (d - digit 0)) rest
+
+-- a list of bytes is the number k in decimal
+pub record InDecimal (k : ℕ) (l : List ℕ) : Type 0 where
+  pub all-digits : Digits l
+  pub value : valueFrom 0 l ≡ k
+  -- 0 is one digit, and any other number begins with no zero
+  pub zero-alone : k ≡ 0 → l ≡ digit 0 ∷ []
+  pub no-zero-first : 0 < k → digit 0 < byteAt l 0
