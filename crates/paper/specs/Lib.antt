@@ -14,3 +14,4 @@ pub mod Lines
 pub mod Meanings
 pub mod Published
 pub mod Replays
+pub mod Examples
