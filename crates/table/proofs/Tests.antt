@@ -1,5 +1,5 @@
 -- Laws of tests over the numbers below n, and of the bits that tests become.
-use Prim.Native.Nat.{ℕ, suc, _+_, _≤_}
+use Prim.Native.Nat.{ℕ, zero, suc, _+_, _≤_, _<_}
 use mathlib.Core.Bool.{Bool, true, false, _&&_, _||_}
 use mathlib.Core.Path.{_≡_, refl}
 use native.Mathlib.Numerals.{add-one}
@@ -25,3 +25,8 @@ all-more n p = rw add-one
 pub all-none : (p : ℕ → Bool) → all 0 p ≡ true
 unfolding all
 all-none p = refl
+
+pub all-alike : (n : ℕ) (p q : ℕ → Bool) → ((x : ℕ) → x < n → p x ≡ q x) → all n p ≡ all n q
+unfolding all
+all-alike zero p q h = refl
+all-alike (suc n) p q h = let r = all-alike n p q (λ x l. h x (omega arith)) in rw (r, h n (omega arith))

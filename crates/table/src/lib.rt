@@ -1,15 +1,16 @@
 // The reader: checks 3 to 8 of an upload, and what an accepted table gives to its callers.
 ghost use mathlib.Core.Path.{_≡_};
-ghost use mathlib.Core.Bool.{Bool, true, false, not, _&&_, _||_};
-ghost use Prim.Native.Nat.{ℕ, _+_, _*_, _<_, _≤_};
+ghost use mathlib.Core.Bool.{cond};
+ghost use Prim.Native.Nat.{_+_, _<_, _≤_};
 ghost use lib.ListN.{length, getD};
 ghost use lib.Dec.{eqb};
 ghost use Rattle.counting.specs.Count.{all};
-ghost use Rattle.paper.specs.Upload.{byteAt, nodesOf, linksOf, actionsOf, linkAt, exactLength};
-ghost use Rattle.paper.specs.Table.{tableOf, EndsBelow, onePiece};
+ghost use Rattle.paper.specs.Upload.{byteAt, nodesOf, linksOf, actionsOf, linkAt};
+ghost use Rattle.paper.specs.Table.{tableOf, onePiece};
 ghost use Rattle.paper.specs.Actions.{joins};
-ghost use Rattle.paper.specs.Refusals.{inRange, repeats, linkRefusal, linksRefusal};
-ghost use Rattle.table.specs.Checked.{checked};
+ghost use Rattle.paper.specs.Refusals.{inRange, repeats, linkRefusal};
+ghost use Rattle.table.specs.Labels.{Labelled, Rewritten, ownNumber, renamed};
+ghost use Rattle.table.specs.Checked.{checked, answeredAt, pieceRefusal, linksThenPiece, HeaderPasses, LinksInside};
 
 // The answer of the reader.
 pub enum Checked {
@@ -88,4 +89,159 @@ fn repeats(upload: &[u8], i: usize) -> bool
         j += 1;
     }
     found
+}
+
+// The number by which link i is refused, 0 where it passes.
+fn link_number(upload: &[u8], i: usize) -> u8
+    requires { ⌜ linkAt i + 1 < length (now upload) ⌝ }
+    ensures { λ r. ⌜ r ≡ linkRefusal (tableOf (now (upload .entry))) i .number ⌝ }
+{
+    let n = nodes(upload);
+    let p = end(upload, i, false);
+    let q = end(upload, i, true);
+    if !((p < n) & (q < n)) {
+        return 5;
+    }
+    if p == q {
+        return 6;
+    }
+    if repeats(upload, i) {
+        return 7;
+    }
+    0
+}
+
+// Every node has its own number as label.
+fn number_nodes(labels: &mut [u8])
+    requires { ⌜ length (now labels) ≤ 63 ⌝ }
+    ensures { λ r. ⌜ Rewritten ownNumber (now (labels .entry)) (now (labels .exit)) ⌝ }
+{
+    let mut x = 0;
+    while x < labels.len() {
+        labels[x] = x as u8;
+        x += 1;
+    }
+}
+
+// The label that a node with this one has after a link.
+fn label_after(label: u8, second: u8, first: u8) -> u8
+    ensures { λ r. ⌜ r ≡ cond (eqb label second) first label ⌝ }
+{
+    if label == second { first } else { label }
+}
+
+// All nodes that have the second label get the first.
+fn relabel(labels: &mut [u8], second: u8, first: u8)
+    ensures { λ r. ⌜ Rewritten (renamed second first) (now (labels .entry)) (now (labels .exit)) ⌝ }
+{
+    let mut x = 0;
+    while x < labels.len() {
+        labels[x] = label_after(labels[x], second, first);
+        x += 1;
+    }
+}
+
+// Each link in turn gives all nodes that have its second node's label the label of its first.
+fn join_all(labels: &mut [u8], upload: &[u8])
+    requires { ⌜ Labelled (tableOf (now upload)) 0 (now labels) × LinksInside (now upload) ⌝ }
+    ensures { λ r. ⌜ Labelled (tableOf (now (upload .entry))) (linksOf (now (upload .entry))) (now (labels .exit)) ⌝ }
+{
+    let m = links(upload);
+    let mut i = 0;
+    while i < m {
+        let first = labels[end(upload, i, false)];
+        let second = labels[end(upload, i, true)];
+        relabel(labels, second, first);
+        i += 1;
+    }
+}
+
+// All labels are node 0's.
+fn all_same(labels: &[u8]) -> bool
+    requires { ⌜ 1 ≤ length (now labels) ⌝ }
+    ensures { λ r. ⌜ r ≡ all (length (now (labels .entry))) (λ x. eqb (getD (now (labels .entry)) x 0) (getD (now (labels .entry)) 0 0)) ⌝ }
+{
+    let first = labels[0];
+    let mut same = true;
+    let mut x = 0;
+    while x < labels.len() {
+        same = same & (labels[x] == first);
+        x += 1;
+    }
+    same
+}
+
+// The labels of all nodes, worked out from the links, are the same.
+fn joined(labels: &mut [u8], upload: &[u8]) -> bool
+    requires { ⌜ (length (now labels) ≡ nodesOf (now upload)) × LinksInside (now upload) ⌝ }
+    ensures { λ r. ⌜ r ≡ onePiece (tableOf (now (upload .entry))) ⌝ }
+{
+    number_nodes(labels);
+    join_all(labels, upload);
+    all_same(labels)
+}
+
+// The table is in one piece.
+fn one_piece(upload: &[u8]) -> bool
+    requires { ⌜ LinksInside (now upload) ⌝ }
+    ensures { λ r. ⌜ r ≡ onePiece (tableOf (now (upload .entry))) ⌝ }
+{
+    let n = nodes(upload);
+    let mut labels = [0u8; 63];
+    joined(&mut labels[..n], upload)
+}
+
+// Check 8.
+fn piece_checked(upload: &[u8]) -> Checked
+    requires { ⌜ LinksInside (now upload) ⌝ }
+    ensures { λ r. ⌜ r ≡ answeredAt (now (upload .entry)) (pieceRefusal (now (upload .entry))) ⌝ }
+{
+    if one_piece(upload) {
+        Checked::Accepted {
+            n: nodes(upload),
+            m: links(upload),
+            a: actions(upload),
+        }
+    } else {
+        Checked::Refused { number: 8, place: 0 }
+    }
+}
+
+// Checks 5 to 8.
+fn links_checked(upload: &[u8]) -> Checked
+    requires { ⌜ HeaderPasses (now upload) ⌝ }
+    ensures { λ r. ⌜ r ≡ answeredAt (now (upload .entry)) (linksThenPiece (now (upload .entry))) ⌝ }
+{
+    let m = links(upload);
+    let mut i = 0;
+    while i < m {
+        let number = link_number(upload, i);
+        if number != 0 {
+            return Checked::Refused {
+                number,
+                place: i as u16,
+            };
+        }
+        i += 1;
+    }
+    piece_checked(upload)
+}
+
+// Checks 3 to 8 of an upload, in the paper's order.
+pub fn check(upload: &[u8]) -> Checked
+    ensures { λ r. ⌜ r ≡ checked (now (upload .entry)) ⌝ }
+{
+    let len = upload.len();
+    if len < 4 {
+        return Checked::Refused { number: 3, place: 0 };
+    }
+    let m = links(upload);
+    let a = actions(upload);
+    if !in_range(nodes(upload), m, a) {
+        return Checked::Refused { number: 4, place: 0 };
+    }
+    if len != 4 + 2 * m + 3 * a {
+        return Checked::Refused { number: 3, place: 0 };
+    }
+    links_checked(upload)
 }
