@@ -33,6 +33,7 @@ module _ (f : ℕ → ℕ → ℕ) (before after : List ℕ) (k : ℕ) (so-far :
           rw (e, getD-set-same after k (f k (getD after k 0)) 0 h) (ap (f k) (so-far .kept k (omega arith)))
       below x l (no e) =
           getD-set-other after k x (f k (getD after k 0)) 0 e ∙ so-far .done x (omega arith)
+
       above : (x : ℕ) → k + 1 ≤ x → getD (set after k (f k (getD after k 0))) x 0 ≡ getD before x 0
       above x l =
           getD-set-other after k x (f k (getD after k 0)) 0 (λ e. omega arith) ∙ so-far .kept x (omega arith)
@@ -53,8 +54,8 @@ module _ (t : Table) where
       record {
         count = w .count ∙ l .count;
         label = λ x h.
-          rw (add-one, ← l .label x h, ← l .label _ (ends k true k<), ← l .label _ (ends k false k<))
-          (w .label x (omega (arith, l .count)))
+            rw (add-one, ← l .label x h, ← l .label _ (ends k true k<), ← l .label _ (ends k false k<))
+            (w .label x (omega (arith, l .count)));
       }
 
   -- all labels are node 0's

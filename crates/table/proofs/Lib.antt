@@ -1,2 +1,6 @@
 pub mod Tests
 pub mod Labels
+pub mod Tells
+pub mod OneLink
+pub mod Order
+pub mod Answers

@@ -36,12 +36,16 @@ pieceRefusal upload = given (not (onePiece (tableOf upload))) 8 0
 abbrev pub linksThenPiece : List ℕ → Refusal
 linksThenPiece upload = first (linksRefusal (tableOf upload) 0 (linksOf upload) ∷ pieceRefusal upload ∷ [])
 
--- checks 3 and 4 pass: n, m and a are in range, and the length is exact
-pub record HeaderPasses (upload : List ℕ) : Type 0 where
+-- n 1 to 63, m 0 to 126, a 0 to 1,024
+pub record InRange (upload : List ℕ) : Type 0 where
   pub someNode : 1 ≤ nodesOf upload
   pub nodesFit : nodesOf upload ≤ 63
   pub linksFit : linksOf upload ≤ 126
   pub actionsFit : actionsOf upload ≤ 1024
+
+-- checks 3 and 4 pass: n, m and a are in range, and the length is exact
+pub record HeaderPasses (upload : List ℕ) : Type 0 where
+  pub range : InRange upload
   pub exact : length upload ≡ exactLength upload
 
 -- the header passes, and every end of every link is a node

@@ -203,7 +203,10 @@ fn piece_checked(upload: &[u8]) -> Checked
             a: actions(upload),
         }
     } else {
-        Checked::Refused { number: 8, place: 0 }
+        Checked::Refused {
+            number: 8,
+            place: 0,
+        }
     }
 }
 
@@ -233,15 +236,24 @@ pub fn check(upload: &[u8]) -> Checked
 {
     let len = upload.len();
     if len < 4 {
-        return Checked::Refused { number: 3, place: 0 };
+        return Checked::Refused {
+            number: 3,
+            place: 0,
+        };
     }
     let m = links(upload);
     let a = actions(upload);
     if !in_range(nodes(upload), m, a) {
-        return Checked::Refused { number: 4, place: 0 };
+        return Checked::Refused {
+            number: 4,
+            place: 0,
+        };
     }
     if len != 4 + 2 * m + 3 * a {
-        return Checked::Refused { number: 3, place: 0 };
+        return Checked::Refused {
+            number: 3,
+            place: 0,
+        };
     }
     links_checked(upload)
 }

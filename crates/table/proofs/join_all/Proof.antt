@@ -71,7 +71,7 @@ loop-again : tie.Need-loop-again Inv-loop μ-loop
 loop-again c =
     let at = c .before .before .before .before .before .before .before .before .before in
     let inside = at .before .before .before .before .pre .1 in
-    (search needs, labelled-more _ _ _ _ (inside .ends) (omega arith) (at .loop .inv .1) ?)
+    (search needs, labelled-more _ _ _ _ (inside .ends) (omega arith) (at .loop .inv .1) (rw (← c .before .before .before .before .before .end2 .ensures .0, ← c .before .before .before .before .before .before .before .end .ensures .0) (c .before .before .relabel .ensures)))
 
 -- src/lib.rt:145:1
 same-length : tie.Need-same-length Inv-loop μ-loop

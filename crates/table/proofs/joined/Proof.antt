@@ -1,3 +1,5 @@
+use mathlib.Core.Path.{_∙_}
+use Rattle.table.proofs.Labels.{labelled-none, labelled-same}
 use borrow.Author.Needs.{needs}
 use Rattle.table.proofs.joined.Statement.{statement}
 use Rattle.table.proofs.joined.Tie as tie
@@ -13,7 +15,10 @@ number-nodes-requires c κs = search needs
 
 -- src/lib.rt:180:5
 join-all-requires : tie.Need-join-all-requires
-join-all-requires c κs = ?
+join-all-requires c κs =
+    let at = c .before .before .before in
+    let pre = at .before .before .before .before .pre in
+    (labelled-none _ _ _ (pre .0) (at .number-nodes .ensures), pre .1)
 
 -- src/lib.rt:181:5
 all-same-requires : tie.Need-all-same-requires
@@ -25,7 +30,9 @@ same-length c = search needs
 
 -- src/lib.rt:175:1
 returns : tie.Need-returns
-returns c = ?
+returns c =
+    let start = c .before .before .before .before .before .before .before .before .before .before .before .before in
+    c .all-same .ensures ∙ labelled-same _ _ (start .pre .1 .header .range .someNode) (c .before .before .before .before .join-all .ensures)
 
 pub joined-spec : {M : Type 1} → statement M
 joined-spec =

@@ -1,3 +1,6 @@
+use mathlib.Core.Path.{sym, _∙_}
+use native.Mathlib.Omega.{arith}
+use lib.Seq.{length-take-le}
 use borrow.Author.Needs.{needs}
 use Rattle.table.proofs.one_piece.Statement.{statement}
 use Rattle.table.proofs.one_piece.Tie as tie
@@ -16,11 +19,13 @@ array-borrow-prefix-labels c = search needs
 
 -- src/lib.rt:191:12
 slice-aggregate-joined : tie.Need-slice-aggregate-joined
-slice-aggregate-joined c = ?
+slice-aggregate-joined c =
+    sym (length-take-le _ _ (omega arith))
 
 -- src/lib.rt:191:5
 joined-requires : tie.Need-joined-requires
-joined-requires c κs = ?
+joined-requires c κs =
+    (length-take-le _ _ (omega arith) ∙ c .before .nodes .ensures .0, c .before .before .before .pre)
 
 -- src/lib.rt:185:1
 returns : tie.Need-returns

@@ -26,11 +26,19 @@ actions-requires c κs = search needs
 
 -- src/lib.rt:195:1
 returns : tie.Need-returns
-returns c = ?
+returns c =
+    let then = c .before .before .before in
+    rw (
+      c .before .before .nodes .ensures .0,
+      c .before .links .ensures .0,
+      c .actions .ensures .0,
+      ← then .before .one-piece .ensures,
+      then .if1 .taken,
+    )
 
 -- src/lib.rt:195:1
 returns-2 : tie.Need-returns-2
-returns-2 c = ?
+returns-2 c = rw (← c .before .one-piece .ensures, c .if1 .left)
 
 pub piece-checked-spec : {M : Type 1} → statement M
 piece-checked-spec =
