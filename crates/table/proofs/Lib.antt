@@ -4,3 +4,5 @@ pub mod Tells
 pub mod OneLink
 pub mod Order
 pub mod Answers
+pub mod ExactlyWhen
+pub mod Laws
