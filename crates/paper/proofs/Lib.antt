@@ -1,1 +1,5 @@
 pub mod Replays
+pub mod Tests
+pub mod OnePiece
+pub mod Changes
+pub mod Images

@@ -11,4 +11,5 @@ pub mod Refusals
 pub mod Calls
 pub mod Batch
 pub mod Lines
+pub mod Meanings
 pub mod Replays
