@@ -1,4 +1,5 @@
 use borrow.Author.Needs.{needs}
+use Rattle.image.proofs.Effects.{root-made}
 use Rattle.image.proofs.become_root.Statement.{statement}
 use Rattle.image.proofs.become_root.Tie as tie
 use Rattle.image.proofs.become_root.Reads as reads
@@ -23,7 +24,9 @@ same-length c = search needs
 
 -- src/lib.rt:140:1
 returns : tie.Need-returns
-returns c = ?
+returns c = 
+    let at = c .before .before .before .before in
+    root-made _ _ (at .pre .0) (at .pre .1) (at .args .x) _ (at .pre .2) (c .root-byte .ensures)
 
 pub become-root-spec : {M : Type 1} → statement M
 become-root-spec =

@@ -1,4 +1,9 @@
 use borrow.Author.Needs.{needs}
+use native.Mathlib.Omega.{arith}
+use mathlib.Core.Path.{sym, _∙_}
+use borrow.Author.Tests.{eq-eqb, ne-eqb}
+use Rattle.image.specs.Parts.{sent}
+use Rattle.counting.proofs.Bits.{bit-most}
 use Rattle.image.proofs.send.Statement.{statement}
 use Rattle.image.proofs.send.Tie as tie
 use Rattle.image.proofs.send.Reads as reads
@@ -26,7 +31,7 @@ cast-message-byte c = search needs
 
 -- src/lib.rt:189:33
 add-message-byte : tie.Need-add-message-byte
-add-message-byte c = ?
+add-message-byte c = omega (arith, bit-most (c .child .result))
 
 -- src/lib.rt:189:50
 slice-read-message-byte : tie.Need-slice-read-message-byte
@@ -34,7 +39,7 @@ slice-read-message-byte c = search needs
 
 -- src/lib.rt:189:20
 message-byte-requires : tie.Need-message-byte-requires
-message-byte-requires c κs = ?
+message-byte-requires c κs = omega (arith, bit-most (c .before .child .result))
 
 -- src/lib.rt:189:9
 slice-write-image : tie.Need-slice-write-image
@@ -46,11 +51,17 @@ same-length c = search needs
 
 -- src/lib.rt:182:1
 returns : tie.Need-returns
-returns c = ?
+unfolding sent
+returns c = 
+    let at = c .before .before .before .before .before .before .before .before .before in
+    let here = c .before .before .before .before .before in
+    rw (eq-eqb _ _ (sym (here .before .end .ensures .0) ∙ here .if1 .taken)) (cc)
 
 -- src/lib.rt:182:1
 returns-2 : tie.Need-returns-2
-returns-2 c = ?
+unfolding sent
+returns-2 c = 
+    rw (ne-eqb _ _ (λ e. c .if1 .left (c .before .end .ensures .0 ∙ e)))
 
 pub send-spec : {M : Type 1} → statement M
 send-spec =
