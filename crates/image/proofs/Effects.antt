@@ -3,6 +3,7 @@ use Prim.Native.Nat.{ℕ, _<_, _+_, _*_}
 use mathlib.Core.Bool.{Bool, true, false, not, cond, _&&_, Bool·beq}
 use mathlib.Core.Path.{_≡_, refl, sym, ap, subst, _∙_}
 use mathlib.Core.List.{List}
+use native.Mathlib.Omega.{arith}
 use lib.Dec.{eqb}
 use lib.ListN.{length, set}
 use borrow.Author.Tests.{eq-eqb}
@@ -22,6 +23,14 @@ use Rattle.image.proofs.Sent.{sent-none}
 child-alone : (here d : Bool) (m : Message) → let byte = bit d + 2 * messageNumber m in cond here 1 byte ≡ bit (cond here true d) + 2 * messageNumber (cond here none m)
 child-alone true d m = refl
 child-alone false d m = refl
+
+-- an end of a link has a byte in a lent image
+pub end-inside : (upload image : List ℕ) → Lent upload image → (i : ℕ) (b : Bool) (y : ℕ) → i < linksOf upload → y ≡ tableOf upload .end i b → y < length image
+end-inside upload image lent i b y h e = omega (arith, lent .table .ends i b h, lent .fits)
+
+-- what is lent stays lent while its length stays
+pub lent-kept : (upload image l : List ℕ) → Lent upload image → length l ≡ length image → Lent upload l
+lent-kept upload image l lent e = record { table = lent .table; fits = e ∙ lent .fits }
 
 module _ (upload image : List ℕ) (lent : Lent upload image) (good : sound (tableOf upload) image ≡ true) where
   -- the lent image is the image of the state that it shows

@@ -1,4 +1,7 @@
 use borrow.Author.Needs.{needs}
+use lib.ListN.{length-set}
+use mathlib.Core.Bool.{false, not}
+use Rattle.image.proofs.Effects.{end-inside, acknowledged-made}
 use Rattle.image.proofs.acknowledge.Statement.{statement}
 use Rattle.image.proofs.acknowledge.Tie as tie
 use Rattle.image.proofs.acknowledge.Reads as reads
@@ -35,7 +38,9 @@ slice-write-image c = search needs
 
 -- src/lib.rt:165:41
 slice-read-contending-byte : tie.Need-slice-read-contending-byte
-slice-read-contending-byte c = ?
+slice-read-contending-byte c =
+    let at = c .before .before .before .before .before .before .before .before .before in
+    simp length-set (end-inside _ _ (at .pre .0) (at .args .i) (not (at .args .back)) _ (at .pre .2) (c .before .before .before .before .before .end .ensures .0))
 
 -- src/lib.rt:165:16
 contending-byte-requires : tie.Need-contending-byte-requires
@@ -43,15 +48,19 @@ contending-byte-requires c κs = search needs
 
 -- src/lib.rt:165:5
 slice-write-image-2 : tie.Need-slice-write-image-2
-slice-write-image-2 c = ?
+slice-write-image-2 c =
+    let at = c .before .before .before .before .before .before .before .before .before .before in
+    simp length-set (end-inside _ _ (at .pre .0) (at .args .i) (not (at .args .back)) _ (at .pre .2) (c .before .before .before .before .before .before .end .ensures .0))
 
 -- src/lib.rt:157:1
 same-length : tie.Need-same-length
-same-length c = search needs
+same-length c = simp length-set
 
 -- src/lib.rt:157:1
 returns : tie.Need-returns
-returns c = ?
+returns c =
+    let at = c .before .before .before .before .before .before .before .before .before .before in
+    acknowledged-made _ _ (at .pre .0) (at .pre .1) (at .args .i) (at .args .back) _ _ _ _ _ (at .pre .2) (c .before .before .before .before .before .before .before .direction-at .ensures .0) (c .before .before .before .before .before .before .end .ensures .0) (c .before .before .before .before .requesting .ensures) (c .before .before .message-byte .ensures) (c .contending-byte .ensures)
 
 pub acknowledge-spec : {M : Type 1} → statement M
 acknowledge-spec =

@@ -20,7 +20,7 @@ same-length c = search needs
 
 -- src/lib.rt:148:1
 returns : tie.Need-returns
-returns c = 
+returns c =
     let at = c .before .before .before in
     child-made _ _ (at .pre .0) (at .pre .1) (at .args .i) (at .args .back) _ (at .pre .2) (c .direction-at .ensures .0)
 

@@ -24,7 +24,7 @@ same-length c = search needs
 
 -- src/lib.rt:140:1
 returns : tie.Need-returns
-returns c = 
+returns c =
     let at = c .before .before .before .before in
     root-made _ _ (at .pre .0) (at .pre .1) (at .args .x) _ (at .pre .2) (c .root-byte .ensures)
 

@@ -51,7 +51,7 @@ same-length c = c .before .loop .inv .1
 
 -- src/lib.rt:81:1
 returns : tie.Need-returns Inv-loop μ-loop
-returns c = 
+returns c =
     let end : c .before .loop .k ≡ c .before .before .args .count = omega arith in
     rw end at (c .before .loop .inv .2)
 

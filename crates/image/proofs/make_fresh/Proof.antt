@@ -1,4 +1,10 @@
 use borrow.Author.Needs.{needs}
+use Prim.Native.Nat.{_*_}
+use mathlib.Core.Path.{_≡_, _∙_}
+use denote.Ref.{now}
+use Rattle.paper.specs.Table.{tableOf}
+use Rattle.image.specs.Parts.{filled}
+use Rattle.image.proofs.Filled.{fresh-filled}
 use Rattle.image.proofs.make_fresh.Statement.{statement}
 use Rattle.image.proofs.make_fresh.Tie as tie
 use Rattle.image.proofs.make_fresh.Reads as reads
@@ -33,7 +39,11 @@ same-length c = search needs
 
 -- src/lib.rt:93:1
 returns : tie.Need-returns
-returns c = ?
+returns c =
+    let at = c .before .before .before .before .before .before .before .before .before .before .before .before in
+    let t = tableOf (now (at .args .upload)) in
+    let made : c .before .before .fill2 .last .0 ≡ filled (filled (now (at .args .image)) 0 (t .nodes) 1) (t .nodes) (2 * t .links) 0 = cc in
+    made ∙ fresh-filled t (now (at .args .image)) (at .pre .fits)
 
 pub make-fresh-spec : {M : Type 1} → statement M
 make-fresh-spec =

@@ -52,7 +52,7 @@ same-length c = search needs
 -- src/lib.rt:182:1
 returns : tie.Need-returns
 unfolding sent
-returns c = 
+returns c =
     let at = c .before .before .before .before .before .before .before .before .before in
     let here = c .before .before .before .before .before in
     rw (eq-eqb _ _ (sym (here .before .end .ensures .0) ∙ here .if1 .taken)) (cc)
@@ -60,7 +60,7 @@ returns c =
 -- src/lib.rt:182:1
 returns-2 : tie.Need-returns-2
 unfolding sent
-returns-2 c = 
+returns-2 c =
     rw (ne-eqb _ _ (λ e. c .if1 .left (c .before .end .ensures .0 ∙ e)))
 
 pub send-spec : {M : Type 1} → statement M
