@@ -4,9 +4,12 @@ ghost use Prim.Native.Nat.{_+_, _*_, _<_, _≤_};
 ghost use Rattle.paper.specs.Upload.{nodesOf, linksOf};
 ghost use Rattle.paper.specs.Table.{tableOf};
 ghost use Rattle.paper.specs.Steps.{unheard, possible, childrenKnown, addChild, acknowledge, resolve, becomeRoot};
+ghost use mathlib.Core.Bool.{cond, true};
+ghost use lib.Dec.{ltb};
+ghost use Rattle.paper.specs.Actions.{joins, linkBetween, nodeStep, linkStep, reading, readNode, readLink, refusedBy};
 ghost use Rattle.table.specs.Accepted.{Accepted};
 ghost use Rattle.marks.specs.Lent.{Lent};
-ghost use Rattle.automaton.specs.Tried.{shown, lacks, lacking};
+ghost use Rattle.automaton.specs.Tried.{shown, lacks, lacking, TriedAs};
 
 // How many directions into a node lack child.
 pub struct Unheard {
@@ -94,4 +97,92 @@ pub fn may_become_root(upload: &[u8], image: &[u8], x: usize) -> bool
     ensures { λ r. ⌜ r ≡ possible (tableOf (now (upload .entry))) (shown (now (upload .entry)) (now (image .entry))) (becomeRoot x) ⌝ }
 {
     !marks::root(upload, image, x) & (unheard_at(upload, image, x).count == 0)
+}
+
+// What an action comes to: the number by which it is refused, 0 if it can be taken, and the direction that it names.
+pub struct Tried {
+    pub number: u8,
+    pub link: usize,
+    pub back: bool,
+}
+
+// Link i joins x and y, either way round.
+fn joins_at(upload: &[u8], x: usize, y: usize, i: usize) -> bool
+    requires { ⌜ Accepted (now upload) × (i < linksOf (now upload)) ⌝ }
+    ensures { λ r. ⌜ r ≡ joins (tableOf (now (upload .entry))) x y i ⌝ }
+{
+    let a = end_node(upload, i, false);
+    let b = end_node(upload, i, true);
+    ((a == x) & (b == y)) | ((a == y) & (b == x))
+}
+
+// The link that joins x and y, m where none does.
+pub fn link_between(upload: &[u8], x: usize, y: usize) -> usize
+    requires { ⌜ Accepted (now upload) ⌝ }
+    ensures { λ r. ⌜ (r ≡ linkBetween (tableOf (now (upload .entry))) x y) × (r ≤ linksOf (now (upload .entry))) ⌝ }
+{
+    let m = upload::links(upload);
+    let mut i: usize = 0;
+    while i < m {
+        if joins_at(upload, x, y, i) {
+            return i;
+        }
+        i += 1;
+    }
+    m
+}
+
+// The step of kind 1 or 5 at node x is possible.
+pub fn node_possible(upload: &[u8], image: &[u8], kind: usize, x: usize) -> bool
+    requires { ⌜ Lent (now upload) (now image) × (x < nodesOf (now upload)) ⌝ }
+    ensures { λ r. ⌜ r ≡ possible (tableOf (now (upload .entry))) (shown (now (upload .entry)) (now (image .entry))) (nodeStep kind x) ⌝ }
+{
+    if kind == 1 {
+        may_know_children(upload, image, x)
+    } else {
+        may_become_root(upload, image, x)
+    }
+}
+
+// The step of kinds 2 to 4 on a direction of link i is possible.
+pub fn link_possible(upload: &[u8], image: &[u8], kind: usize, i: usize, back: bool) -> bool
+    requires { ⌜ Lent (now upload) (now image) × (i < linksOf (now upload)) ⌝ }
+    ensures { λ r. ⌜ r ≡ possible (tableOf (now (upload .entry))) (shown (now (upload .entry)) (now (image .entry))) (linkStep kind i back) ⌝ }
+{
+    if kind == 2 {
+        may_add_child(upload, image, i, back)
+    } else {
+        if kind == 3 {
+            may_acknowledge(upload, image, i, back)
+        } else {
+            may_resolve(upload, image, i, back)
+        }
+    }
+}
+
+// The number of a step that is possible or not.
+fn refused_unless(taken: bool) -> u8
+    ensures { λ r. ⌜ r ≡ cond taken 0 11 ⌝ }
+{
+    if taken { 0 } else { 11 }
+}
+
+// An action of kind 1 or 5.
+fn try_node(upload: &[u8], image: &[u8], kind: usize, x: usize, y: usize) -> Tried
+    requires { ⌜ Lent (now upload) (now image) ⌝ }
+    ensures { λ r. ⌜ TriedAs (tableOf (now (upload .entry))) (shown (now (upload .entry)) (now (image .entry))) (readNode (tableOf (now (upload .entry))) kind x y) r ⌝ }
+{
+    if (x < upload::nodes(upload)) & (y == 255) {
+        Tried {
+            number: refused_unless(node_possible(upload, image, kind, x)),
+            link: 0,
+            back: false,
+        }
+    } else {
+        Tried {
+            number: 9,
+            link: 0,
+            back: false,
+        }
+    }
 }
