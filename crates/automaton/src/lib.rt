@@ -6,7 +6,7 @@ ghost use Rattle.paper.specs.Table.{tableOf};
 ghost use Rattle.paper.specs.Steps.{unheard, possible, childrenKnown, addChild, acknowledge, resolve, becomeRoot};
 ghost use mathlib.Core.Bool.{cond, true};
 ghost use lib.Dec.{ltb};
-ghost use Rattle.paper.specs.Actions.{joins, linkBetween, nodeStep, linkStep, reading, readNode, readLink, refusedBy};
+ghost use Rattle.paper.specs.Actions.{joins, linkBetween, nodeStep, linkStep, reading, readNode, readLink, names, directionFrom};
 ghost use Rattle.table.specs.Accepted.{Accepted};
 ghost use Rattle.marks.specs.Lent.{Lent};
 ghost use Rattle.automaton.specs.Tried.{shown, lacks, lacking, TriedAs};
@@ -183,6 +183,65 @@ fn try_node(upload: &[u8], image: &[u8], kind: usize, x: usize, y: usize) -> Tri
             number: 9,
             link: 0,
             back: false,
+        }
+    }
+}
+
+// An action of kinds 2 to 4 that names link i, from x.
+fn try_direction(upload: &[u8], image: &[u8], kind: usize, i: usize, x: usize) -> Tried
+    requires { ⌜ Lent (now upload) (now image) × (i < linksOf (now upload)) ⌝ }
+    ensures { λ r. ⌜ TriedAs (tableOf (now (upload .entry))) (shown (now (upload .entry)) (now (image .entry))) (names (linkStep kind i (directionFrom (tableOf (now (upload .entry))) i x))) r ⌝ }
+{
+    let back = !(end_node(upload, i, false) == x);
+    Tried {
+        number: refused_unless(link_possible(upload, image, kind, i, back)),
+        link: i,
+        back: back,
+    }
+}
+
+// An action of kinds 2 to 4.
+fn try_link(upload: &[u8], image: &[u8], kind: usize, x: usize, y: usize) -> Tried
+    requires { ⌜ Lent (now upload) (now image) ⌝ }
+    ensures { λ r. ⌜ TriedAs (tableOf (now (upload .entry))) (shown (now (upload .entry)) (now (image .entry))) (readLink (tableOf (now (upload .entry))) kind x y) r ⌝ }
+{
+    let n = upload::nodes(upload);
+    if (x < n) & (y < n) {
+        let i = link_between(upload, x, y);
+        if i < upload::links(upload) {
+            try_direction(upload, image, kind, i, x)
+        } else {
+            Tried {
+                number: 10,
+                link: 0,
+                back: false,
+            }
+        }
+    } else {
+        Tried {
+            number: 9,
+            link: 0,
+            back: false,
+        }
+    }
+}
+
+// What an action comes to.
+pub fn try_action(upload: &[u8], image: &[u8], kind: u8, x: u8, y: u8) -> Tried
+    requires { ⌜ Lent (now upload) (now image) ⌝ }
+    ensures { λ r. ⌜ TriedAs (tableOf (now (upload .entry))) (shown (now (upload .entry)) (now (image .entry))) (reading (tableOf (now (upload .entry))) kind x y) r ⌝ }
+{
+    if (kind == 1) | (kind == 5) {
+        try_node(upload, image, kind as usize, x as usize, y as usize)
+    } else {
+        if (2 <= kind) & (kind <= 4) {
+            try_link(upload, image, kind as usize, x as usize, y as usize)
+        } else {
+            Tried {
+                number: 9,
+                link: 0,
+                back: false,
+            }
         }
     }
 }

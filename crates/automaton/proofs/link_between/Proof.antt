@@ -58,11 +58,13 @@ returns-2 : tie.Need-returns-2 Inv-loop μ-loop
 returns-2 c =
     let now = c .before .loop in
     let at = c .before .before .before .before in
-    let all : now .i ≡ linksOf (at .args .upload .now) = omega arith in
-    (sym
-    (least-none _ _ _
-    (subst (λ (k : ℕ). some k (joins (tableOf (at .args .upload .now)) (at .args .x) (at .args .y)) ≡ false) all (now .inv .2))
-    ∙ sym (now .inv .1)), search needs)
+    let all : now .i ≡ linksOf (at .args .upload .now) = omega arith in (
+      sym
+          (least-none _ _ _
+          (subst (λ (k : ℕ). some k (joins (tableOf (at .args .upload .now)) (at .args .x) (at .args .y)) ≡ false) all (now .inv .2))
+          ∙ sym (now .inv .1)),
+      search needs,
+    )
 
 pub link-between-spec : {M : Type 1} → statement M
 link-between-spec =

@@ -1,3 +1,11 @@
+use Rattle.automaton.proofs.Named.{both, tried-not, node-link, node-end}
+use Rattle.paper.specs.Upload.{nodesOf}
+use borrow.Author.Tests.{ltb-true}
+use native.Mathlib.Omega.{arith}
+use Prim.Native.Nat.{ℕ}
+use lib.Dec.{ltb, eqb}
+use mathlib.Core.Bool.{Bool, cond, _&&_, true, false}
+use mathlib.Core.Path.{_≡_, sym, ap, _∙_}
 use borrow.Author.Needs.{needs}
 use Rattle.automaton.proofs.try_node.Statement.{statement}
 use Rattle.automaton.proofs.try_node.Tie as tie
@@ -13,7 +21,10 @@ nodes-requires c κs = search needs
 
 -- src/lib.rt:177:36
 node-possible-requires : tie.Need-node-possible-requires
-node-possible-requires c κs = search needs
+node-possible-requires c κs =
+    let at = c .before .before .before .before in
+    let below = ltb-true (at .args .x) (c .before .nodes .result) (both (ltb (at .args .x) (c .before .nodes .result)) (eqb (at .args .y) 255) (c .if1 .taken) .0) in
+    (at .pre, omega arith)
 
 -- src/lib.rt:177:21
 refused-unless-requires : tie.Need-refused-unless-requires
@@ -21,11 +32,21 @@ refused-unless-requires c κs = search needs
 
 -- src/lib.rt:171:1
 returns : tie.Need-returns
-returns c = search needs
+returns c =
+    let at = c .before .before .before .before .before .before in
+    let read : (ltb (at .args .x) (nodesOf (at .args .upload .now)) && eqb (at .args .y) 255) ≡ true = rw (← c .before .before .before .nodes .ensures .0) (c .before .before .if1 .taken) in
+    rw read (record {
+      number = c .refused-unless .ensures ∙ ap (λ (p : Bool). cond p 0 11) (c .before .node-possible .ensures);
+      link = sym (node-link (at .args .kind) (at .args .x));
+      back = sym (node-end (at .args .kind) (at .args .x));
+    })
 
 -- src/lib.rt:171:1
 returns-2 : tie.Need-returns-2
-returns-2 c = search needs
+returns-2 c =
+    let at = c .before .before .before .before in
+    let read : (ltb (at .args .x) (nodesOf (at .args .upload .now)) && eqb (at .args .y) 255) ≡ false = rw (← c .before .nodes .ensures .0) (c .if1 .left) in
+    rw read (tried-not 9)
 
 pub try-node-spec : {M : Type 1} → statement M
 try-node-spec =
