@@ -2,3 +2,4 @@ pub mod Stored
 pub mod Sent
 pub mod Filled
 pub mod Effects
+pub mod Kept

@@ -9,9 +9,11 @@ ghost use Rattle.paper.specs.Upload.{byteAt, nodesOf, linksOf};
 ghost use Rattle.paper.specs.Table.{tableOf};
 ghost use Rattle.paper.specs.State.{fresh};
 ghost use Rattle.paper.specs.Steps.{effect, childrenKnown, addChild, acknowledge, resolve, becomeRoot};
+ghost use Rattle.paper.specs.Actions.{nodeStep, linkStep};
 ghost use Rattle.paper.specs.Image.{stateOf, imageOf, soundDirection, sound};
 ghost use Rattle.marks.specs.Lent.{Lent};
 ghost use Rattle.image.specs.Parts.{stoppedByte, contendingByte, rootByte, childByte, messageByte, sent, sentOn, filled};
+ghost use Rattle.image.specs.Taken.{Named, stepOf};
 
 // The byte of a node is in range.
 fn node_sound(image: &[u8], x: usize) -> bool
@@ -210,5 +212,43 @@ pub fn children_known(upload: &[u8], image: &mut [u8], x: usize)
     while i < m {
         send_on(upload, image, x, i);
         i += 1;
+    }
+}
+
+// Kinds 1 and 5, at node x.
+fn take_at_node(upload: &[u8], image: &mut [u8], kind: u8, x: usize)
+    requires { ⌜ Lent (now upload) (now image) × (sound (tableOf (now upload)) (now image) ≡ true) × (x < nodesOf (now upload)) ⌝ }
+    ensures { λ _. ⌜ now (image .exit) ≡ imageOf (tableOf (now (upload .entry))) (effect (tableOf (now (upload .entry))) (stateOf (tableOf (now (upload .entry))) (now (image .entry))) (nodeStep kind x)) ⌝ }
+{
+    if kind == 1 {
+        children_known(upload, image, x);
+    } else {
+        become_root(upload, image, x);
+    }
+}
+
+// Kinds 2 to 4, on a direction of link i.
+fn take_on_link(upload: &[u8], image: &mut [u8], kind: u8, i: usize, back: bool)
+    requires { ⌜ Lent (now upload) (now image) × (sound (tableOf (now upload)) (now image) ≡ true) × (i < linksOf (now upload)) ⌝ }
+    ensures { λ _. ⌜ now (image .exit) ≡ imageOf (tableOf (now (upload .entry))) (effect (tableOf (now (upload .entry))) (stateOf (tableOf (now (upload .entry))) (now (image .entry))) (linkStep kind i back)) ⌝ }
+{
+    if kind == 2 {
+        add_child(upload, image, i, back);
+    } else if kind == 3 {
+        acknowledge(upload, image, i, back);
+    } else {
+        resolve(upload, image, i, back);
+    }
+}
+
+// The step of a kind: kinds 1 and 5 at node x, the others on a direction of link i.
+pub fn take(upload: &[u8], image: &mut [u8], kind: u8, x: usize, i: usize, back: bool)
+    requires { ⌜ Lent (now upload) (now image) × (sound (tableOf (now upload)) (now image) ≡ true) × Named (tableOf (now upload)) kind x i ⌝ }
+    ensures { λ _. ⌜ now (image .exit) ≡ imageOf (tableOf (now (upload .entry))) (effect (tableOf (now (upload .entry))) (stateOf (tableOf (now (upload .entry))) (now (image .entry))) (stepOf kind x i back)) ⌝ }
+{
+    if (kind == 1) | (kind == 5) {
+        take_at_node(upload, image, kind, x);
+    } else {
+        take_on_link(upload, image, kind, i, back);
     }
 }
