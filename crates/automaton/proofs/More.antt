@@ -53,3 +53,10 @@ least-found (suc n) i p d h g e = go (λ below. least-found n i p (cond (p n) n 
     go : (i < n → least n p (cond (p n) n d) ≡ i) → Dec (i ≡ n) → least n p (cond (p n) n d) ≡ i
     go before (yes same) = rw (← same, e) (least-none i p i g)
     go before (no other) = before (omega arith)
+
+-- a search that has come to the end
+pub some-end : {i n : ℕ} (p : ℕ → Bool) → i ≡ n → some i p ≡ false → some n p ≡ false
+some-end p e h = rw (← e) h
+
+pub sum-end : {i n : ℕ} (f : ℕ → ℕ) → i ≡ n → sum i f ≡ sum n f
+sum-end f e = rw e
