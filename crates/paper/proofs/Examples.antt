@@ -13,4 +13,4 @@ use Rattle.paper.specs.Examples.{Examples}
 
 pub examples-hold : Examples
 unfolding sum all some least listOf joined labels onePiece possible effect imageOf sound moving reading listed runFrom runner linksRefusal refusal reportAnswer runAnswer runImage
-examples-hold = record { odd-image = refl; between-loops = refl; behind-loop = refl; tail-image = refl }
+examples-hold = record { odd-image = refl; loop-moving = refl; between-loops = refl; behind-loop = refl; tail-image = refl }

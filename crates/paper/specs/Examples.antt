@@ -1,7 +1,7 @@
 -- Examples beside the replays: an odd image, and what the runner does where the links make loops.
 use Prim.Native.Nat.{ℕ}
 use mathlib.Core.Path.{_≡_}
-use mathlib.Core.List.{List, [], _∷_}
+use mathlib.Core.List.{List, [], _∷_, _++_}
 use lib.ListN.{replicate}
 use Rattle.paper.specs.declared.Answer.{Answer}
 use Rattle.paper.specs.Calls.{reportAnswer, runAnswer, runImage}
@@ -19,9 +19,15 @@ twoLoops = 7 ∷ 8 ∷ 0 ∷ 0 ∷ 0 ∷ 1 ∷ 1 ∷ 2 ∷ 2 ∷ 0 ∷ 2 ∷ 3 �
 abbrev pub tail : List ℕ
 tail = 5 ∷ 5 ∷ 0 ∷ 0 ∷ 0 ∷ 1 ∷ 1 ∷ 2 ∷ 2 ∷ 0 ∷ 0 ∷ 3 ∷ 3 ∷ 4 ∷ []
 
+-- P8's table with no action: a loop and a node behind it
+abbrev pub behind : List ℕ
+behind = 4 ∷ 4 ∷ 0 ∷ 0 ∷ 0 ∷ 1 ∷ 1 ∷ 2 ∷ 2 ∷ 0 ∷ 3 ∷ 0 ∷ []
+
 pub record Examples : Type 0 where
   -- outcome 4, odd
   pub odd-image : reportAnswer P12-table oddImage ≡ six 0 0 0 4 255 0
+  -- fresh, with a loop and no root yet, but moving: node 3 knows its children
+  pub loop-moving : reportAnswer behind (replicate 4 1 ++ replicate 8 0) ≡ six 0 0 0 1 255 4
   -- the runner takes no step and all seven wait, also the node that is in no loop
   pub between-loops : runAnswer twoLoops (replicate 23 0) ≡ six 0 0 0 3 255 7
   -- the runner takes five steps: the tail's two nodes stop waiting, and the loop's three wait
