@@ -1,24 +1,24 @@
 -- A sound image and the marks and messages that it shows determine each other.
-use Prim.Native.Nat.{ℕ, zero, suc, _+_, _-_, _*_, _/_, _%_, _<_, _≤_}
-use mathlib.Core.Bool.{Bool, true, false, not, cond, _&&_, true≢false, false≢true}
+use Prim.Native.Nat.{ℕ, zero, suc, _+_, _-_, _*_, _/_, _<_, _≤_}
+use mathlib.Core.Bool.{Bool, true, false, not, cond, _&&_, false≢true}
 use mathlib.Core.Path.{_≡_, refl, sym, ap, subst, _∙_, fun-ext}
 use mathlib.Core.Logic.{_⊎_, inl, inr}
 use mathlib.Core.List.{List, [], _∷_, _++_}
 use lib.Dec.{eqb, ltb}
 use lib.ListN.{length, getD, length-append, List·getD-append}
 use lib.Seq.{getD-append-add, ext-getD}
-use borrow.Author.Tests.{eqb-true, eqb-false, eq-eqb, ltb-true, ltb-false, lt-ltb, le-ltb, not-true}
+use borrow.Author.Tests.{eqb-true, ltb-true, ltb-false, lt-ltb, le-ltb}
 use native.Mathlib.Omega.{arith}
 use native.Mathlib.Decide.{ℕ-discrete, decLt}
 use Rattle.counting.specs.Count.{bit, all, listOf, joined}
 use Rattle.paper.specs.Upload.{byteAt}
 use Rattle.paper.specs.Table.{Table, source, target, EndsBelow}
 use Rattle.paper.specs.State.{Message, none, request, acknowledgement, State, fresh}
-use Rattle.paper.specs.Steps.{Step, childrenKnown, addChild, acknowledge, resolve, becomeRoot, possible, effect, at, outOf, sends, carries}
+use Rattle.paper.specs.Steps.{Step, childrenKnown, addChild, acknowledge, resolve, becomeRoot, possible, effect, at, sends, carries}
 use Rattle.paper.specs.Image.{nodeByte, messageNumber, directionByte, imageOf, imageLength, directionAt, odd, messageOf, stateOf, soundDirection, sound, fits}
 use Rattle.paper.specs.Meanings.{Shown, SoundMarks}
 use Rattle.paper.proofs.Tests.{and-left, and-right, and-both, all-true, all-holds}
-use Rattle.paper.proofs.Changes.{at-elim, at-away, at-direction-elim, at-direction-away, InTable, possible-in-table}
+use Rattle.paper.proofs.Changes.{at-elim, at-away, at-direction-elim, at-direction-away, possible-in-table}
 
 pub length-listOf {ℓ} : {A : Type ℓ} (n : ℕ) (f : ℕ → A) → length (listOf n f) ≡ n
 unfolding listOf

@@ -1,17 +1,17 @@
 -- The list holds exactly the possible steps, each once, ascending.
-use Prim.Native.Nat.{ℕ, zero, suc, _+_, _*_, _<_, _≤_}
-use mathlib.Core.Bool.{Bool, true, false, not, cond, true≢false, false≢true}
+use Prim.Native.Nat.{ℕ, zero, suc, _<_, _≤_}
+use mathlib.Core.Bool.{Bool, true, false, cond}
 use mathlib.Core.Path.{_≡_, refl, sym, ap, subst, _∙_}
 use mathlib.Core.Logic.{_⊎_, inl, inr, ⊎-elim, _↔_, Iff·trans}
 use mathlib.Core.List.{List, [], _∷_, _++_}
-use lib.Dec.{eqb, ltb, leb}
-use borrow.Author.Tests.{eqb-true, eqb-false, eq-eqb}
+use lib.Dec.{eqb}
+use borrow.Author.Tests.{eqb-true, eq-eqb}
 use native.Mathlib.Omega.{arith}
 use native.Mathlib.Decide.{ℕ-discrete}
 use Rattle.counting.specs.Count.{joined}
 use Rattle.paper.specs.Table.{Table, EndsBelow, NoSelfLink}
 use Rattle.paper.specs.State.{State}
-use Rattle.paper.specs.Steps.{Step, possible, Still}
+use Rattle.paper.specs.Steps.{Step, possible}
 use Rattle.paper.specs.Report.{moving}
 use Rattle.paper.specs.Actions.{Reading, names, directionFrom, nodeStep, linkStep, reading, refusedBy, entry, entriesAt, entriesOf, listed}
 use Rattle.paper.specs.Meanings.{NoRepeats, kindOf, firstOf, secondOf, Stands, three, Ascending, ListsSteps}

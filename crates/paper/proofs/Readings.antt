@@ -1,19 +1,17 @@
 -- How three bytes are read: the cases, and that a step's three bytes, and no others, are read as that step.
-use Prim.Native.Nat.{ℕ, zero, suc, _<_, _≤_}
-use mathlib.Core.Bool.{Bool, true, false, not, cond, _&&_, _||_, true≢false, false≢true}
+use Prim.Native.Nat.{ℕ, suc, _<_, _≤_}
+use mathlib.Core.Bool.{Bool, true, false, not, cond, _&&_, false≢true}
 use mathlib.Core.Path.{_≡_, refl, sym, ap, subst, subst⁻¹, _∙_}
 use mathlib.Core.Logic.{_⊎_, inl, inr, ⊎-elim}
 use lib.Dec.{eqb, ltb, leb}
-use borrow.Author.Tests.{eqb-true, eqb-false, eq-eqb, ne-eqb, ltb-true, lt-ltb, leb-true, le-leb}
+use borrow.Author.Tests.{eqb-true, ne-eqb, ltb-true, lt-ltb, leb-true}
 use native.Mathlib.Omega.{arith}
 use native.Mathlib.Decide.{ℕ-discrete}
-use Rattle.counting.specs.Count.{least}
 use Rattle.paper.specs.Table.{Table, source, target, EndsBelow, NoSelfLink}
-use Rattle.paper.specs.State.{State}
-use Rattle.paper.specs.Steps.{Step, childrenKnown, addChild, acknowledge, resolve, becomeRoot, possible}
-use Rattle.paper.specs.Actions.{Reading, names, unread, joins, linkBetween, directionFrom, nodeStep, linkStep, readNode, readLink, ofNode, ofLink, reading, refusedBy}
+use Rattle.paper.specs.Steps.{Step, childrenKnown, addChild, acknowledge, resolve, becomeRoot}
+use Rattle.paper.specs.Actions.{Reading, names, unread, joins, linkBetween, directionFrom, nodeStep, linkStep, readNode, readLink, ofNode, ofLink, reading}
 use Rattle.paper.specs.Meanings.{NoRepeats, kindOf, firstOf, secondOf}
-use Rattle.paper.proofs.Tests.{not-not, eqb-same, and-left, and-right, and-both, or-left, or-right, or-cases, either, clash, least-only, least-passes}
+use Rattle.paper.proofs.Tests.{not-not, eqb-same, and-left, and-right, and-both, or-left, or-right, or-cases, clash, least-only, least-passes}
 use Rattle.paper.proofs.Changes.{InTable}
 
 -- the cases of a reading: a node's step, a link's step, or a number of refusal that isn't 0

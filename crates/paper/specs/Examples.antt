@@ -3,7 +3,6 @@ use Prim.Native.Nat.{ℕ}
 use mathlib.Core.Path.{_≡_}
 use mathlib.Core.List.{List, [], _∷_, _++_}
 use lib.ListN.{replicate}
-use Rattle.paper.specs.declared.Answer.{Answer}
 use Rattle.paper.specs.Calls.{reportAnswer, runAnswer, runImage}
 use Rattle.paper.specs.Replays.{six, P12-table}
 
