@@ -25,7 +25,7 @@ unfolding listOf
 length-listOf zero f = refl
 length-listOf (suc n) f = let h = length-listOf n f in length-append (listOf n f) (f n ∷ []) ∙ omega arith
 
--- the list with one more at its end, read below that end and at it
+-- two lists one behind the other, read in the first of n and in the second
 getD-below {ℓ} : {A : Type ℓ} (l r : List A) (d : A) (n j : ℕ) → length l ≡ n → j < n → getD (l ++ r) j d ≡ getD l j d
 getD-below l r d n j e h = List·getD-append l r d j (rw e h)
 
@@ -210,7 +210,7 @@ shown-effect t s (becomeRoot x) ends shown e =
       message = shown .message;
     }
 
--- a node's mark that the image shows, where the table ends with the nodes
+-- a mark that an image shows is the state's, where the state has none from n on
 shown-mark : (n x : ℕ) (a b : Bool) → (x < n → a ≡ b) → (n ≤ x → b ≡ false) → ltb x n && a ≡ b
 shown-mark n x a b inside outside = go (ltb x n) refl
   where
