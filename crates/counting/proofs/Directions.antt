@@ -102,3 +102,10 @@ handshake n m into f below =
   where
     g : ℕ → ℕ → Bool → ℕ
     g x i b = cond (eqb (into i b) x) (f x i b) 0
+
+-- one more direction passes, (k, c)
+pub both-gain : (m : ℕ) (p q : ℕ → Bool → Bool) (k : ℕ) (c : Bool) → k < m → p k c ≡ false → q k c ≡ true → ((i : ℕ) (b : Bool) → i < m → (i ≡ k → ⊥) → p i b ≡ q i b) → p k (not c) ≡ q k (not c) → sumBoth m (λ i b. bit (q i b)) ≡ sumBoth m (λ i b. bit (p i b)) + 1
+both-gain m p q k c l e f h r =
+    let z = both-change m (λ i b. bit (p i b)) (λ i b. bit (q i b)) k c l (λ i b l′ d. ap bit (h i b l′ d)) (ap bit r) in
+    let u = bit-false e in
+    let v = bit-true f in omega arith

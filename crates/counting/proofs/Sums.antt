@@ -211,3 +211,10 @@ count-unique n p k h = go (find n p)
             out : (p i ≡ true) ⊎ (p i ≡ false) → p i ≡ false
             out (inl e) = absurd (d (h i l e ∙ sym (h (w .0) (w .1) (w .2))))
             out (inr e) = e
+
+-- one more passes, at k
+pub count-gain : (n : ℕ) (p q : ℕ → Bool) (k : ℕ) → k < n → p k ≡ false → q k ≡ true → ((i : ℕ) → i < n → (i ≡ k → ⊥) → p i ≡ q i) → count n q ≡ count n p + 1
+count-gain n p q k l e f h =
+    let c = sum-change n (λ i. bit (p i)) (λ i. bit (q i)) k l (λ i m d. ap bit (h i m d)) in
+    let u = bit-false e in
+    let v = bit-true f in omega arith
