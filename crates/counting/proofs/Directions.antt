@@ -1,6 +1,6 @@
 -- Laws of sums over the two directions of each of m links.
 use Prim.Native.Nat.{ℕ, zero, suc, _+_, _*_, _≤_, _<_}
-use mathlib.Core.Bool.{Bool, true, false, not, cond}
+use mathlib.Core.Bool.{Bool, true, false, not, cond, _&&_}
 use mathlib.Core.Path.{_≡_, refl, ap, sym, _∙_, subst}
 use mathlib.Core.Logic.{_⊎_, inl, inr}
 use native.Mathlib.Omega.{arith}
@@ -109,3 +109,20 @@ both-gain m p q k c l e f h r =
     let z = both-change m (λ i b. bit (p i b)) (λ i b. bit (q i b)) k c l (λ i b l′ d. ap bit (h i b l′ d)) (ap bit r) in
     let u = bit-false e in
     let v = bit-true f in omega arith
+
+-- The directions that pass q into the nodes that pass p, counted by links and by nodes.
+pub handshake-count : (n m : ℕ) (into : ℕ → Bool → ℕ) (p : ℕ → Bool) (q : ℕ → Bool → Bool) → ((i : ℕ) (b : Bool) → i < m → into i b < n) → sumBoth m (λ i b. bit (p (into i b) && q i b)) ≡ sum n (λ x. cond (p x) (sumBoth m (λ i b. bit (eqb (into i b) x && q i b))) 0)
+handshake-count n m into p q below =
+    handshake n m into (λ x i b. bit (p x && q i b)) below ∙ sum-eq n (λ x. sumBoth m (λ i b. cond (eqb (into i b) x) (bit (p x && q i b)) 0)) (λ x. cond (p x) (sumBoth m (λ i b. bit (eqb (into i b) x && q i b))) 0) (λ x l. node x (p x))
+  where
+    inner : (c d : Bool) → cond c (bit d) 0 ≡ bit (c && d)
+    inner true d = refl
+    inner false d = refl
+
+    outer : (c : Bool) → _≡_ {A = ℕ} (cond c 0 0) 0
+    outer true = refl
+    outer false = refl
+
+    node : (x : ℕ) (w : Bool) → sumBoth m (λ i b. cond (eqb (into i b) x) (bit (w && q i b)) 0) ≡ cond w (sumBoth m (λ i b. bit (eqb (into i b) x && q i b))) 0
+    node x true = both-eq m (λ i b. cond (eqb (into i b) x) (bit (q i b)) 0) (λ i b. bit (eqb (into i b) x && q i b)) (λ i b l. inner (eqb (into i b) x) (q i b))
+    node x false = both-none m (λ i b. cond (eqb (into i b) x) 0 0) (λ i b l. outer (eqb (into i b) x))
