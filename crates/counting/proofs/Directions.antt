@@ -8,7 +8,7 @@ use native.Mathlib.Decide.{ℕ-discrete}
 use lib.Dec.{eqb}
 use borrow.Author.Tests.{eq-eqb, ne-eqb}
 use Rattle.counting.specs.Count.{sum, count, bit}
-use Rattle.counting.proofs.Sums.{either, bit-true, bit-false, bit-le, bit-mono, sum-add, sum-eq, sum-le, sum-none, sum-swap, sum-term, sum-change, sum-pick, sum-pair, find}
+use Rattle.counting.proofs.Sums.{either, clash, bit-true, bit-false, bit-le, bit-mono, sum-add, sum-eq, sum-le, sum-none, sum-swap, sum-term, sum-change, sum-pick, sum-pair, find}
 
 -- f at the directions (i, false) and (i, true) of every link i below m
 abbrev pub sumBoth : ℕ → (ℕ → Bool → ℕ) → ℕ
@@ -126,3 +126,18 @@ handshake-count n m into p q below =
     node : (x : ℕ) (w : Bool) → sumBoth m (λ i b. cond (eqb (into i b) x) (bit (w && q i b)) 0) ≡ cond w (sumBoth m (λ i b. bit (eqb (into i b) x && q i b))) 0
     node x true = both-eq m (λ i b. cond (eqb (into i b) x) (bit (q i b)) 0) (λ i b. bit (eqb (into i b) x && q i b)) (λ i b l. inner (eqb (into i b) x) (q i b))
     node x false = both-none m (λ i b. cond (eqb (into i b) x) 0 0) (λ i b l. outer (eqb (into i b) x))
+
+same-or-not : (b c : Bool) → (c ≡ b) ⊎ (c ≡ not b)
+same-or-not true true = inl refl
+same-or-not true false = inr refl
+same-or-not false true = inr refl
+same-or-not false false = inl refl
+
+-- directions that a test tells apart
+pub apart-by : (p : ℕ → Bool → Bool) (j : ℕ) (b : Bool) (k : ℕ) (c : Bool) → p j b ≡ true → p k c ≡ false → Apart j b k c
+apart-by p j b k c e f = go (ℕ-discrete j k) (same-or-not b c)
+  where
+    go : Dec (j ≡ k) → (c ≡ b) ⊎ (c ≡ not b) → Apart j b k c
+    go (no d) w = inl d
+    go (yes q) (inr w) = inr w
+    go (yes q) (inl w) = absurd (clash e (ap (λ i. p i b) q ∙ (ap (p k) (sym w) ∙ f)))

@@ -1,3 +1,4 @@
 pub mod Marks
 pub mod Ends
 pub mod Balance
+pub mod Pieces

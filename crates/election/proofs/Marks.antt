@@ -75,3 +75,8 @@ module _ (t : Table) (s : State) where
       let p = and-eq-true-iff (ltb x (t .nodes)) (not (s .root x) && eqb (unheard t s x) 0) .0 e in
       let q = and-eq-true-iff (not (s .root x)) (eqb (unheard t s x) 0) .0 (p .1) in
       (ltb-true x (t .nodes) (p .0), not-true (s .root x) (q .0), eqb-true (unheard t s x) 0 (q .1))
+
+-- the reverse of a direction ends where the direction starts
+pub back : (t : Table) (i : ℕ) (b : Bool) → target t i (not b) ≡ source t i b
+back t i true = refl
+back t i false = refl
