@@ -2,3 +2,4 @@ pub mod Marks
 pub mod Ends
 pub mod Balance
 pub mod Pieces
+pub mod Peeling
