@@ -3,3 +3,4 @@ pub mod Ends
 pub mod Balance
 pub mod Pieces
 pub mod Peeling
+pub mod Left

@@ -17,7 +17,7 @@ use Rattle.paper.specs.Steps.{Step, childrenKnown, addChild, acknowledge, resol
 use Rattle.election.specs.Local.{Local}
 use Rattle.election.proofs.Marks.{at-here, at-else, back, ends-differ, may-childrenKnown}
 use Rattle.election.proofs.Balance.{inside}
-use Rattle.election.proofs.Pieces.{Crossing, InOnePiece, fresh-piece, without, into-one, peeled-piece}
+use Rattle.election.proofs.Pieces.{Crossing, InOnePiece, fresh-piece, without, linked, peeled-piece}
 
 -- W, the nodes that wait, after some peeling
 pub record Peeled (t : Table) (W : ℕ → Bool) : Type 0 where
@@ -73,12 +73,11 @@ module _ (t : Table) (below : EndsBelow t) (apart : NoSelfLink t) (W : ℕ → B
   size-peeled = count-gain (t .nodes) (at W x false) W x l (at-here W x false) w (λ j r d. at-else W x false j d)
 
   -- another member: x has a link into W
-  linked : InOnePiece t W → 0 < count (t .nodes) (at W x false) → 1 ≤ linksInto t W x
-  linked piece p =
+  another : InOnePiece t W → 0 < count (t .nodes) (at W x false) → 1 ≤ linksInto t W x
+  another piece p =
       let y = count-witness (t .nodes) (at W x false) p in
       let o = without W x (y .0) (y .2) in
-      let c = piece (λ j. eqb j x) x (y .0) l (y .1) w (o .1) (eq-eqb x x refl) (ne-eqb (y .0) x (o .0)) in
-      into-one t W x (c .link) (not (c .way)) (c .known) (back t (c .link) (c .way) ∙ eqb-true (source t (c .link) (c .way)) x (c .inner)) (c .to)
+      linked t W x piece l w (y .0) (y .1) (o .1) (o .0)
 
   -- no other member: x has no link into W
   alone : count (t .nodes) (at W x false) ≡ 0 → linksInto t W x ≡ 0
@@ -100,7 +99,7 @@ module _ (t : Table) (below : EndsBelow t) (apart : NoSelfLink t) (W : ℕ → B
         piece = peeled-piece t W x (p .piece) few;
         some =
             λ m.
-            let a = linked (p .piece) m in
+            let a = another (p .piece) m in
             let b = inside-peeled in
             let c = size-peeled in
             let d = p .some (omega arith) in omega arith;

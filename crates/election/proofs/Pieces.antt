@@ -207,3 +207,9 @@ module _ (t : Table) (W : ℕ → Bool) (x : ℕ) where
                 inner = near .0;
                 outer = leftA (target t i b) (c .outer) d;
               }
+
+  -- x and another member of W: x has a link into W
+  pub linked : InOnePiece t W → x < t .nodes → W x ≡ true → (y : ℕ) → y < t .nodes → W y ≡ true → (y ≡ x → ⊥) → 1 ≤ linksInto t W x
+  linked piece l w y m v d =
+      let c = piece (λ j. eqb j x) x y l m w v (eq-eqb x x refl) (ne-eqb y x d) in
+      into-one (c .link) (not (c .way)) (c .known) (back t (c .link) (c .way) ∙ eqb-true (source t (c .link) (c .way)) x (c .inner)) (c .to)
