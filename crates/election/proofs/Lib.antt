@@ -4,3 +4,4 @@ pub mod Balance
 pub mod Pieces
 pub mod Peeling
 pub mod Left
+pub mod Course
