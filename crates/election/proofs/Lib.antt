@@ -5,3 +5,4 @@ pub mod Pieces
 pub mod Peeling
 pub mod Left
 pub mod Course
+pub mod Rest
