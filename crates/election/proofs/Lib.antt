@@ -6,3 +6,4 @@ pub mod Peeling
 pub mod Left
 pub mod Course
 pub mod Rest
+pub mod Furthest
