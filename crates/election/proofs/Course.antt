@@ -125,9 +125,8 @@ module _ (t : Table) (below : EndsBelow t) (apart : NoSelfLink t) (kept : Kept t
   reached-kept s r x e =
       record { local = kept .localStep s (r .local) x e; peeled = peeled-kept t s below apart (r .local) (r .peeled) x e }
 
-  pub reached : 1 ≤ t .nodes → OnePiece t → (xs : List Step) → Run t xs → Reached t (after t (fresh t) xs)
-  reached one joined =
-      along t (Reached t) reached-kept (fresh t) (record { local = kept .localFresh; peeled = fresh-peeled t one below joined })
+  pub reached-fresh : 1 ≤ t .nodes → OnePiece t → Reached t (fresh t)
+  reached-fresh one joined = record { local = kept .localFresh; peeled = fresh-peeled t one below joined }
 
   -- Contentions resolved and full nodes: never two; and none is resolved on a table with a loop.
   pub resolved-few : (s : State) → Reached t s → (xs : List Step) → taken t s xs ≡ true → (resolved xs + full t s ≤ 1) × ((resolved xs ≡ 0) ⊎ (t .links + 1 ≡ t .nodes))

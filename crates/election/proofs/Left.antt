@@ -38,14 +38,14 @@ module _ (t : Table) (s : State) (below : EndsBelow t) (apart : NoSelfLink t) (l
           let b = waiting-unheard t s local x in
           let c = eqb-true (unheard t s x) 0 f in absurd (omega arith)
 
-  nobody : count (t .nodes) (s .waiting) ≡ 0 → Left t s
+  pub nobody : count (t .nodes) (s .waiting) ≡ 0 → (full t s + bare t s ≡ 1) × (t .links + 1 ≡ t .nodes)
   nobody z =
       let a = count-none (t .links) (λ i. s .waiting (t .end i false) && s .waiting (t .end i true)) (λ i l. ap (λ p. p && s .waiting (t .end i true)) (still (t .end i false) (below i false l))) in
       let b = count-not (t .nodes) (s .waiting) in
       let c = balance t s below local in
       let d = sum-eq (t .nodes) (λ x. bit (not (s .waiting x) && isFull t s x)) (λ x. bit (isFull t s x)) (λ x l. ap (λ p. bit (not p && isFull t s x)) (still x l)) in
       let e = peeled .none z in
-      inr (omega arith, e)
+      (omega arith, e)
     where
       still : (x : ℕ) → x < t .nodes → s .waiting x ≡ false
       still = count-zero (t .nodes) (s .waiting) z
@@ -101,5 +101,5 @@ module _ (t : Table) (s : State) (below : EndsBelow t) (apart : NoSelfLink t) (l
   left = go (ℕ-discrete (count (t .nodes) (s .waiting)) 0)
     where
       go : Dec (count (t .nodes) (s .waiting) ≡ 0) → Left t s
-      go (yes z) = nobody z
+      go (yes z) = inr (nobody z)
       go (no d) = somebody (omega arith)

@@ -7,3 +7,4 @@ pub mod Left
 pub mod Course
 pub mod Rest
 pub mod Furthest
+pub mod Election

@@ -19,7 +19,6 @@ use Rattle.election.specs.Local.{Local}
 use Rattle.election.proofs.Marks.{at-else, back, may-childrenKnown}
 use Rattle.election.proofs.Balance.{inside, isBare, bare, isFull}
 use Rattle.election.proofs.Peeling.{Peeled, waiting-unheard}
-use Rattle.election.proofs.Course.{Kept, along, Reached, reached-kept, reached}
 
 -- more members, more links into them
 into-grows : (t : Table) → EndsBelow t → (S W : ℕ → Bool) → ((x : ℕ) → x < t .nodes → S x ≡ true → W x ≡ true) → (x : ℕ) → linksInto t S x ≤ linksInto t W x
