@@ -3,4 +3,12 @@ pub mod Table
 pub mod State
 pub mod Steps
 pub mod Image
+pub mod Report
+pub mod Actions
+pub mod Runner
 pub mod Stuck
+pub mod Refusals
+pub mod Calls
+pub mod Batch
+pub mod Lines
+pub mod Replays
