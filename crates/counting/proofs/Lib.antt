@@ -1,3 +1,3 @@
+pub mod Bits
 pub mod Sums
 pub mod Directions
-pub mod Bits

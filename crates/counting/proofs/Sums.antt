@@ -1,6 +1,6 @@
 -- Laws of sums and counts over 0, 1, .., n - 1.
 use Prim.Native.Nat.{ℕ, zero, suc, _+_, _*_, _≤_, _<_}
-use mathlib.Core.Bool.{Bool, true, false, not, cond, false≢true, true≢false}
+use mathlib.Core.Bool.{Bool, true, false, not, cond, and-eq-true-iff}
 use mathlib.Core.Path.{_≡_, refl, ap, sym, _∙_, subst}
 use mathlib.Core.Logic.{_⊎_, inl, inr}
 use native.Mathlib.Omega.{arith}
@@ -8,39 +8,7 @@ use native.Mathlib.Decide.{ℕ-discrete}
 use lib.Dec.{eqb}
 use borrow.Author.Tests.{eq-eqb, ne-eqb}
 use Rattle.counting.specs.Count.{sum, count, bit, all}
-
--- a Boolean is true or false
-pub either : (p : Bool) → (p ≡ true) ⊎ (p ≡ false)
-either true = inl refl
-either false = inr refl
-
--- not both
-pub clash : {p : Bool} → p ≡ true → p ≡ false → ⊥
-clash e f = true≢false (sym e ∙ f)
-
-pub bit-true : {p : Bool} → p ≡ true → bit p ≡ 1
-bit-true e = ap bit e
-
-pub bit-false : {p : Bool} → p ≡ false → bit p ≡ 0
-bit-false e = ap bit e
-
-pub bit-le : (p : Bool) → bit p ≤ 1
-bit-le true = omega arith
-bit-le false = omega arith
-
-pub bit-not : (p : Bool) → bit (not p) + bit p ≡ 1
-bit-not true = refl
-bit-not false = refl
-
--- a bit that is positive
-pub bit-pos : (p : Bool) → 0 < bit p → p ≡ true
-bit-pos true h = refl
-bit-pos false h = absurd (omega arith)
-
--- where one test implies the other
-pub bit-mono : (p q : Bool) → (p ≡ true → q ≡ true) → bit p ≤ bit q
-bit-mono true q h = rw (h refl) (omega arith)
-bit-mono false q h = omega arith
+use Rattle.counting.proofs.Bits.{bit-true, bit-false, bit-zero, bit-most, bit-not, bit-mono}
 
 pub sum-add : (n : ℕ) (f g : ℕ → ℕ) → sum n (λ i. f i + g i) ≡ sum n f + sum n g
 unfolding sum
@@ -126,22 +94,22 @@ sum-pair n f j k l m d =
     let e : g j ≡ f j = ap (λ p. cond p 0 (f j)) (ne-eqb j k d) in
     let t = sum-term n g j l in omega arith
 
--- the last number below n that passes a test, or none does
-pub find : (n : ℕ) (p : ℕ → Bool) → ((k : ℕ) × (k < n) × (p k ≡ true)) ⊎ ((k : ℕ) → k < n → p k ≡ false)
+-- a number below n passes the test, or none does
+abbrev pub Found : ℕ → (ℕ → Bool) → Type 0
+Found n p = ((k : ℕ) × (k < n) × (p k ≡ true)) ⊎ ((k : ℕ) → k < n → p k ≡ false)
+
+pub find : (n : ℕ) (p : ℕ → Bool) → Found n p
 find zero p = inr (λ k l. absurd (omega arith))
-find (suc n) p = go (either (p n)) (find n p)
+find (suc n) p = go (p n) refl (find n p)
   where
-    go : (p n ≡ true) ⊎ (p n ≡ false) → ((k : ℕ) × (k < n) × (p k ≡ true)) ⊎ ((k : ℕ) → k < n → p k ≡ false) → ((k : ℕ) × (k < suc n) × (p k ≡ true)) ⊎ ((k : ℕ) → k < suc n → p k ≡ false)
-    go (inl e) below = inl (n, omega arith, e)
-    go (inr e) (inl w) = inl (w .0, let l = w .1 in omega arith, w .2)
-    go (inr e) (inr none) = inr last
+    go : (b : Bool) → p n ≡ b → Found n p → Found (suc n) p
+    go true e below = inl (n, omega arith, e)
+    go false e (inl w) = let l = w .1 in inl (w .0, omega arith, w .2)
+    go false e (inr none) = inr (λ k l. last k l (ℕ-discrete k n))
       where
-        last : (k : ℕ) → k < suc n → p k ≡ false
-        last k l = at-last (ℕ-discrete k n)
-          where
-            at-last : Dec (k ≡ n) → p k ≡ false
-            at-last (yes q) = ap p q ∙ e
-            at-last (no d) = none k (omega arith)
+        last : (k : ℕ) → k < suc n → Dec (k ≡ n) → p k ≡ false
+        last k l (yes q) = ap p q ∙ e
+        last k l (no d) = none k (omega arith)
 
 pub count-none : (n : ℕ) (p : ℕ → Bool) → ((k : ℕ) → k < n → p k ≡ false) → count n p ≡ 0
 count-none n p h = sum-none n (λ i. bit (p i)) (λ i l. bit-false (h i l))
@@ -170,17 +138,13 @@ count-some n p k l e =
 pub count-witness : (n : ℕ) (p : ℕ → Bool) → 0 < count n p → (k : ℕ) × (k < n) × (p k ≡ true)
 count-witness n p h = go (find n p)
   where
-    go : ((k : ℕ) × (k < n) × (p k ≡ true)) ⊎ ((k : ℕ) → k < n → p k ≡ false) → (k : ℕ) × (k < n) × (p k ≡ true)
+    go : Found n p → (k : ℕ) × (k < n) × (p k ≡ true)
     go (inl w) = w
-    go (inr none) = absurd (let z = count-none n p none in omega arith)
+    go (inr none) = let z = count-none n p none in absurd (omega arith)
 
 -- a count of nothing
 pub count-zero : (n : ℕ) (p : ℕ → Bool) → count n p ≡ 0 → (k : ℕ) → k < n → p k ≡ false
-count-zero n p z k l = go (either (p k))
-  where
-    go : (p k ≡ true) ⊎ (p k ≡ false) → p k ≡ false
-    go (inl e) = absurd (let h = count-some n p k l e in omega arith)
-    go (inr e) = e
+count-zero n p z k l = let t = sum-term n (λ i. bit (p i)) k l in bit-zero (p k) (omega arith)
 
 -- a count of at most one: two that pass are the same
 pub count-same : (n : ℕ) (p : ℕ → Bool) → count n p ≤ 1 → (j k : ℕ) → j < n → k < n → p j ≡ true → p k ≡ true → j ≡ k
@@ -189,28 +153,24 @@ count-same n p h j k l m e f = go (ℕ-discrete j k)
     go : Dec (j ≡ k) → j ≡ k
     go (yes q) = q
     go (no d) =
-        absurd (let t = sum-pair n (λ i. bit (p i)) j k l m d in
+        let t = sum-pair n (λ i. bit (p i)) j k l m d in
         let u = bit-true e in
-        let v = bit-true f in omega arith)
+        let v = bit-true f in absurd (omega arith)
 
 -- where all that pass are the same, the count is at most one
 pub count-unique : (n : ℕ) (p : ℕ → Bool) (k : ℕ) → ((j : ℕ) → j < n → p j ≡ true → j ≡ k) → count n p ≤ 1
 count-unique n p k h = go (find n p)
   where
-    go : ((j : ℕ) × (j < n) × (p j ≡ true)) ⊎ ((j : ℕ) → j < n → p j ≡ false) → count n p ≤ 1
+    go : Found n p → count n p ≤ 1
     go (inr none) = let z = count-none n p none in omega arith
     go (inl w) =
-        let j = w .0 in
-        let c = sum-change n (λ i. bit (p i)) (λ i. 0) j (w .1) (λ i l d. bit-false (other i l d)) in
+        let c = sum-change n (λ i. bit (p i)) (λ i. 0) (w .0) (w .1) (λ i l d. bit-false (other i l d (p i) refl)) in
         let z = sum-none n (λ i. 0) (λ i l. refl) in
-        let b = bit-le (p j) in omega arith
+        let b = bit-most (p (w .0)) in omega arith
       where
-        other : (i : ℕ) → i < n → (i ≡ w .0 → ⊥) → p i ≡ false
-        other i l d = out (either (p i))
-          where
-            out : (p i ≡ true) ⊎ (p i ≡ false) → p i ≡ false
-            out (inl e) = absurd (d (h i l e ∙ sym (h (w .0) (w .1) (w .2))))
-            out (inr e) = e
+        other : (i : ℕ) → i < n → (i ≡ w .0 → ⊥) → (b : Bool) → p i ≡ b → b ≡ false
+        other i l d false e = refl
+        other i l d true e = absurd (d (h i l e ∙ sym (h (w .0) (w .1) (w .2))))
 
 -- one more passes, at k
 pub count-gain : (n : ℕ) (p q : ℕ → Bool) (k : ℕ) → k < n → p k ≡ false → q k ≡ true → ((i : ℕ) → i < n → (i ≡ k → ⊥) → p i ≡ q i) → count n q ≡ count n p + 1
@@ -218,3 +178,13 @@ count-gain n p q k l e f h =
     let c = sum-change n (λ i. bit (p i)) (λ i. bit (q i)) k l (λ i m d. ap bit (h i m d)) in
     let u = bit-false e in
     let v = bit-true f in omega arith
+
+-- where all pass, each does
+pub all-each : (n : ℕ) (p : ℕ → Bool) → all n p ≡ true → (k : ℕ) → k < n → p k ≡ true
+unfolding all
+all-each zero p e k l = absurd (omega arith)
+all-each (suc n) p e k l = let both = and-eq-true-iff (all n p) (p n) .0 e in go (ℕ-discrete k n) (both .1) (all-each n p (both .0) k)
+  where
+    go : Dec (k ≡ n) → p n ≡ true → (k < n → p k ≡ true) → p k ≡ true
+    go (yes q) last below = ap p q ∙ last
+    go (no d) last below = below (omega arith)

@@ -1,15 +1,16 @@
 -- One equation between links and nodes, true wherever the local facts hold.
-use Prim.Native.Nat.{ℕ, suc, _+_, _*_, _≤_, _<_}
+use Prim.Native.Nat.{ℕ, _+_, _≤_, _<_}
 use mathlib.Core.Bool.{Bool, true, false, not, cond, _&&_}
-use mathlib.Core.Path.{_≡_, refl, ap, sym, _∙_, subst}
+use mathlib.Core.Path.{_≡_, refl, ap, sym, _∙_}
 use native.Mathlib.Omega.{arith}
 use native.Mathlib.Decide.{ℕ-discrete}
 use lib.Dec.{eqb}
 use borrow.Author.Tests.{eq-eqb, ne-eqb}
 use Rattle.counting.specs.Count.{sum, count, bit}
-use Rattle.counting.proofs.Sums.{bit-true, bit-false, sum-add, sum-eq, sum-ones}
-use Rattle.counting.proofs.Directions.{sumBoth, handshake-count}
-use Rattle.paper.specs.Table.{Table, source, target, directions, EndsBelow}
+use Rattle.counting.proofs.Bits.{bit-true, bit-false}
+use Rattle.counting.proofs.Sums.{sum-add, sum-eq, sum-ones}
+use Rattle.counting.proofs.Directions.{handshake-count}
+use Rattle.paper.specs.Table.{Table, target, directions, EndsBelow}
 use Rattle.paper.specs.State.{State}
 use Rattle.paper.specs.Steps.{unheard}
 use Rattle.election.specs.Local.{Local}
@@ -54,7 +55,7 @@ of-link false false false false p q r = refl
 module _ (t : Table) (s : State) (below : EndsBelow t) (local : Local t s) where
   -- unheard directions into nodes that have stopped
   owed : ℕ
-  owed = sumBoth (t .links) (λ i b. bit (not (s .waiting (target t i b)) && not (s .child i b)))
+  owed = directions t (λ i b. not (s .waiting (target t i b)) && not (s .child i b))
 
   by-nodes : owed + fullStopped t s ≡ stopped t s
   unfolding owed

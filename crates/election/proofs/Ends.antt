@@ -1,22 +1,26 @@
 -- Every run ends: the potential rises by one at every step but a resolved contention, which leaves it.
 use Prim.Native.Nat.{ℕ, suc, _+_, _*_, _≤_, _<_}
-use mathlib.Core.Bool.{Bool, true, false, not, cond, _&&_, Bool·beq, and-false, and-eq-true-iff}
-use mathlib.Core.Path.{_≡_, refl, ap, sym, _∙_, subst}
+use mathlib.Core.Bool.{Bool, true, false, not, cond, _&&_, and-false, and-eq-true-iff}
+use mathlib.Core.Path.{_≡_, refl, ap, sym, _∙_}
 use mathlib.Core.List.{List, [], _∷_}
-use mathlib.Core.Logic.{_⊎_, inl, inr}
 use native.Mathlib.Omega.{arith}
 use native.Mathlib.Decide.{ℕ-discrete}
-use lib.Dec.{ltb, eqb}
+use lib.Dec.{eqb}
 use lib.ListN.{length}
 use borrow.Author.Tests.{lt-ltb, eq-eqb, ne-eqb}
 use Rattle.counting.specs.Count.{sum, count, bit}
-use Rattle.counting.proofs.Sums.{either, clash, bit-true, bit-false, bit-le, sum-change, sum-le, sum-add, sum-ones, count-below, count-gain}
-use Rattle.counting.proofs.Directions.{sumBoth, both-eq, both-le, both-gain}
+use Rattle.counting.proofs.Bits.{bit-most}
+use Rattle.counting.proofs.Sums.{sum-add, sum-le, sum-ones, sum-change, count-below, count-gain}
+use Rattle.counting.proofs.Directions.{both-eq, both-gain}
 use Rattle.paper.specs.Table.{Table, source, target, directions, EndsBelow, NoSelfLink}
-use Rattle.paper.specs.State.{Message, none, request, acknowledgement, State}
-use Rattle.paper.specs.Steps.{Step, childrenKnown, addChild, acknowledge, resolve, becomeRoot, carries, isRequest, sends, outOf, at, atDirection, possible, effect, taken, isResolve}
-use Rattle.election.specs.Demand.{SoundMarks, roots}
-use Rattle.election.proofs.Marks.{at-here, at-else, direction-here, direction-else, direction-reverse, ends-differ, may-childrenKnown, may-addChild, may-acknowledge, may-resolve, may-becomeRoot}
+use Rattle.paper.specs.State.{none, State}
+use Rattle.paper.specs.Steps.{Step, childrenKnown, addChild, acknowledge, resolve, becomeRoot, carries, isRequest, sends, outOf, at, possible, effect, taken, isResolve}
+use Rattle.paper.specs.Report.{roots}
+use Rattle.election.specs.Demand.{SoundMarks, RunsEnd}
+use Rattle.election.proofs.Updates.{clash, fails, at-place, at-other}
+use Rattle.election.proofs.Messages.{loaded}
+use Rattle.election.proofs.MessageRead.{unread, unread-on, unread-off, still-none}
+use Rattle.election.proofs.Possible.{childrenKnown-possible, addChild-possible, acknowledge-possible, resolve-possible, becomeRoot-possible}
 
 -- how many nodes have stopped waiting
 abbrev pub stopped : Table → State → ℕ
@@ -41,6 +45,11 @@ carries-sends : (c : Bool) → carries (sends c) ≡ true
 carries-sends true = refl
 carries-sends false = refl
 
+-- the two nodes of a link are not the same
+pub ends-differ : (t : Table) → NoSelfLink t → (i : ℕ) (b : Bool) → i < t .links → source t i b ≡ target t i b → ⊥
+ends-differ t apart i false l e = apart i l e
+ends-differ t apart i true l e = apart i l (sym e)
+
 module _ (t : Table) (s : State) where
   -- Kind 1 at x: the directions out of x were not done, and are not.
   done-childrenKnown : (x : ℕ) → s .waiting x ≡ true → done t (effect t s (childrenKnown x)) ≡ done t s
@@ -51,67 +60,59 @@ module _ (t : Table) (s : State) where
       same : (i : ℕ) (b : Bool) → i < t .links → Dec (source t i b ≡ x) → isDone t (effect t s (childrenKnown x)) i b ≡ isDone t s i b
       same i b l (yes e) =
           rw (eq-eqb (source t i b) x e, lt-ltb i (t .links) l, carries-sends (s .child i (not b)), e, w) refl
-      same i b l (no d) =
-          rw (ne-eqb (source t i b) x d, lt-ltb i (t .links) l) refl
+      same i b l (no d) = rw (ne-eqb (source t i b) x d, lt-ltb i (t .links) l) refl
 
   -- Kinds 2 and 3 take the message off a direction: it was not done, and is.
-  done-read : SoundMarks t s → (i : ℕ) (b : Bool) → i < t .links → carries (s .message i b) ≡ true → directions t (λ j c. not (s .waiting (source t j c)) && not (carries (atDirection (s .message) i b none j c))) ≡ done t s + 1
+  done-read : SoundMarks t s → (i : ℕ) (b : Bool) → i < t .links → carries (s .message i b) ≡ true → directions t (λ j c. not (s .waiting (source t j c)) && not (carries (unread s i b j c))) ≡ done t s + 1
   done-read sound i b l m =
-      both-gain (t .links) (isDone t s) after i b l before here (λ j c r d. ap (λ z. not (s .waiting (source t j c)) && not (carries z)) (sym (direction-else (s .message) i b none j c d))) (ap (λ z. not (s .waiting (source t i (not b))) && not (carries z)) (sym (direction-reverse (s .message) i b none)))
-    where
-      after : ℕ → Bool → Bool
-      after j c = not (s .waiting (source t j c)) && not (carries (atDirection (s .message) i b none j c))
-
-      before : isDone t s i b ≡ false
-      before = rw m (and-false (not (s .waiting (source t i b))))
-
-      stops : (s .waiting (source t i b) ≡ true) ⊎ (s .waiting (source t i b) ≡ false) → s .waiting (source t i b) ≡ false
-      stops (inl e) = absurd (clash m (ap carries (sound i b l e)))
-      stops (inr e) = e
-
-      here : after i b ≡ true
-      here = rw (direction-here (s .message) i b none, stops (either (s .waiting (source t i b)))) refl
+      both-gain (t .links) (isDone t s) (λ j c. not (s .waiting (source t j c)) && not (carries (unread s i b j c))) i b l
+      (rw m (and-false (not (s .waiting (source t i b)))))
+      (rw (unread-on s i b (refl, refl), fails (s .waiting (source t i b)) (λ w. loaded m (sound i b l w))) refl)
+      (λ j c r d. ap (λ z. not (s .waiting (source t j c)) && not (carries z)) (sym (unread-off s i b d)))
 
   -- Kind 1 at x: one more node has stopped.
   stopped-childrenKnown : (x : ℕ) → x < t .nodes → s .waiting x ≡ true → stopped t (effect t s (childrenKnown x)) ≡ stopped t s + 1
   unfolding effect
   stopped-childrenKnown x l w =
-      count-gain (t .nodes) (λ j. not (s .waiting j)) (λ j. not (at (s .waiting) x false j)) x l (ap not w) (ap not (at-here (s .waiting) x false)) (λ j r d. ap not (sym (at-else (s .waiting) x false j d)))
+      count-gain (t .nodes) (λ j. not (s .waiting j)) (λ j. not (at (s .waiting) x false j)) x l (ap not w) (ap not (at-place (s .waiting) x false refl)) (λ j r d. ap not (sym (at-other (s .waiting) x false d)))
 
   -- Kind 5 at x: one more root.
   roots-becomeRoot : (x : ℕ) → x < t .nodes → s .root x ≡ false → roots t (effect t s (becomeRoot x)) ≡ roots t s + 1
   unfolding effect
   roots-becomeRoot x l r =
-      count-gain (t .nodes) (s .root) (at (s .root) x true) x l r (at-here (s .root) x true) (λ j l′ d. sym (at-else (s .root) x true j d))
+      count-gain (t .nodes) (s .root) (at (s .root) x true) x l r (at-place (s .root) x true refl) (λ j l′ d. sym (at-other (s .root) x true d))
 
   -- The potential rises by one at every step but a resolved contention, which leaves it.
   pub potential-rises : SoundMarks t s → (x : Step) → possible t s x ≡ true → potential t (effect t s x) + bit (isResolve x) ≡ potential t s + 1
   unfolding effect
   potential-rises sound (childrenKnown x) e =
-      let p = may-childrenKnown t s x e in
+      let p = childrenKnown-possible t s x e in
       let u = stopped-childrenKnown x (p .0) (p .1) in
       let v = done-childrenKnown x (p .1) in omega arith
   potential-rises sound (addChild i b) e =
-      let p = may-addChild t s i b e in
+      let p = addChild-possible t s i b e in
       let u = done-read sound i b (p .0) (p .2) in omega arith
   potential-rises sound (acknowledge i b) e =
-      let p = may-acknowledge t s i b e in
+      let p = acknowledge-possible t s i b e in
       let u = done-read sound i b (p .0) (p .2) in omega arith
   potential-rises sound (resolve i b) e = refl
   potential-rises sound (becomeRoot x) e =
-      let p = may-becomeRoot t s x e in
+      let p = becomeRoot-possible t s x e in
       let u = roots-becomeRoot x (p .0) (p .1) in omega arith
+
+  -- A node that contends does so no more.
+  idle-gain : (c : ℕ → Bool) (x : ℕ) → x < t .nodes → c x ≡ true → count (t .nodes) (λ j. not (at c x false j)) ≡ count (t .nodes) (λ j. not (c j)) + 1
+  idle-gain c x l e =
+      count-gain (t .nodes) (λ j. not (c j)) (λ j. not (at c x false j)) x l (ap not e) (ap not (at-place c x false refl)) (λ j r d. ap not (sym (at-other c x false d)))
 
   -- Kind 4: two more nodes do not contend.
   idle-resolve : EndsBelow t → NoSelfLink t → (i : ℕ) (b : Bool) → i < t .links → s .contending (source t i b) ≡ true → s .contending (target t i b) ≡ true → idle t (effect t s (resolve i b)) ≡ idle t s + 2
   unfolding effect
   idle-resolve below apart i b l p q =
       let x = source t i b in
-      let y = target t i b in
       let c = at (s .contending) x false in
-      let other : y ≡ x → ⊥ = λ e. ends-differ t apart i b l (sym e) in
-      let u = count-gain (t .nodes) (λ j. not (s .contending j)) (λ j. not (c j)) x (below i b l) (ap not p) (ap not (at-here (s .contending) x false)) (λ j r d. ap not (sym (at-else (s .contending) x false j d))) in
-      let v = count-gain (t .nodes) (λ j. not (c j)) (λ j. not (at c y false j)) y (below i (not b) l) (ap not (at-else (s .contending) x false y other ∙ q)) (ap not (at-here c y false)) (λ j r d. ap not (sym (at-else c y false j d))) in
+      let u = idle-gain (s .contending) x (below i b l) p in
+      let v = idle-gain c (target t i b) (below i (not b) l) (at-other (s .contending) x false (λ e. ends-differ t apart i b l (sym e)) ∙ q) in
       omega arith
 
   -- Kind 3: at most one node fewer.
@@ -119,9 +120,9 @@ module _ (t : Table) (s : State) where
   unfolding effect
   idle-acknowledge below i b l =
       let y = target t i b in
-      let c = at (s .contending) y (isRequest (s .message i b)) in
-      let u = sum-change (t .nodes) (λ j. bit (not (s .contending j))) (λ j. bit (not (c j))) y (below i (not b) l) (λ j r d. ap (λ z. bit (not z)) (sym (at-else (s .contending) y (isRequest (s .message i b)) j d))) in
-      let v = bit-le (not (s .contending y)) in omega arith
+      let r = isRequest (s .message i b) in
+      let u = sum-change (t .nodes) (λ j. bit (not (s .contending j))) (λ j. bit (not (at (s .contending) y r j))) y (below i (not b) l) (λ j k d. ap (λ z. bit (not z)) (sym (at-other (s .contending) y r d))) in
+      let v = bit-most (not (s .contending y)) in omega arith
 
   -- Twice the potential and the nodes that do not contend rise at every step.
   pub step-rises : EndsBelow t → NoSelfLink t → SoundMarks t s → (x : Step) → possible t s x ≡ true → 2 * potential t s + idle t s < 2 * potential t (effect t s x) + idle t (effect t s x)
@@ -131,17 +132,12 @@ module _ (t : Table) (s : State) where
       go : (x : Step) → possible t s x ≡ true → potential t (effect t s x) + bit (isResolve x) ≡ potential t s + 1 → 2 * potential t s + idle t s < 2 * potential t (effect t s x) + idle t (effect t s x)
       go (childrenKnown x) e u = omega arith
       go (addChild i b) e u = omega arith
-      go (acknowledge i b) e u = let v = idle-acknowledge below i b (may-acknowledge t s i b e .0) in omega arith
-      go (resolve i b) e u = let p = may-resolve t s i b e in let v = idle-resolve below apart i b (p .0) (p .1) (p .2) in omega arith
+      go (acknowledge i b) e u =
+          let v = idle-acknowledge below i b (acknowledge-possible t s i b e .0) in omega arith
+      go (resolve i b) e u =
+          let p = resolve-possible t s i b e in
+          let v = idle-resolve below apart i b (p .0) (p .1) (p .2) in omega arith
       go (becomeRoot x) e u = omega arith
-
-  -- A message taken off leaves the marks sound.
-  read-sound : SoundMarks t s → (i : ℕ) (b : Bool) (j : ℕ) (c : Bool) → j < t .links → s .waiting (source t j c) ≡ true → atDirection (s .message) i b none j c ≡ none
-  read-sound sound i b j c l w = go (eqb j i && Bool·beq c b)
-    where
-      go : (p : Bool) → cond p none (s .message j c) ≡ none
-      go true = refl
-      go false = sound j c l w
 
   -- Sound marks are kept.
   pub sound-kept : SoundMarks t s → (x : Step) → possible t s x ≡ true → SoundMarks t (effect t s x)
@@ -149,11 +145,11 @@ module _ (t : Table) (s : State) where
   sound-kept sound (childrenKnown x) e = λ i b l w. go i b l w (ℕ-discrete (source t i b) x)
     where
       go : (i : ℕ) (b : Bool) → i < t .links → at (s .waiting) x false (source t i b) ≡ true → Dec (source t i b ≡ x) → cond (outOf t x i b) (sends (s .child i (not b))) (s .message i b) ≡ none
-      go i b l w (yes q) = absurd (clash w (ap (at (s .waiting) x false) q ∙ at-here (s .waiting) x false))
+      go i b l w (yes q) = clash w (at-place (s .waiting) x false q)
       go i b l w (no d) =
-          rw (ne-eqb (source t i b) x d, lt-ltb i (t .links) l) (sound i b l (sym (at-else (s .waiting) x false (source t i b) d) ∙ w))
-  sound-kept sound (addChild i b) e = read-sound sound i b
-  sound-kept sound (acknowledge i b) e = read-sound sound i b
+          rw (ne-eqb (source t i b) x d, lt-ltb i (t .links) l) (sound i b l (sym (at-other (s .waiting) x false d) ∙ w))
+  sound-kept sound (addChild i b) e = λ j c l w. still-none s i b j c (sound j c l w)
+  sound-kept sound (acknowledge i b) e = λ j c l w. still-none s i b j c (sound j c l w)
   sound-kept sound (resolve i b) e = sound
   sound-kept sound (becomeRoot x) e = sound
 
@@ -162,15 +158,14 @@ potential-below t s =
     let p = count-below (t .nodes) (λ x. not (s .waiting x)) in
     let q = count-below (t .nodes) (s .root) in
     let r = count-below (t .nodes) (λ x. not (s .contending x)) in
-    let d = sum-le (t .links) (λ i. bit (isDone t s i false) + bit (isDone t s i true)) (λ i. 1 + 1) (λ i l. let u = bit-le (isDone t s i false) in let v = bit-le (isDone t s i true) in omega arith) in
+    let d = sum-le (t .links) (λ i. bit (isDone t s i false) + bit (isDone t s i true)) (λ i. 1 + 1) (λ i l. let u = bit-most (isDone t s i false) in let v = bit-most (isDone t s i true) in omega arith) in
     let e = sum-add (t .links) (λ i. 1) (λ i. 1) in
     let o = sum-ones (t .links) in omega arith
 
 -- From any state with sound marks every run ends.
 pub runs-end : (t : Table) (s : State) → EndsBelow t → NoSelfLink t → SoundMarks t s → (xs : List Step) → taken t s xs ≡ true → length xs ≤ 5 * t .nodes + 4 * t .links
 unfolding taken
-runs-end t s below apart sound xs e =
-    let g = grows s sound xs e in omega arith
+runs-end t s below apart sound xs e = let g = grows s sound xs e in omega arith
   where
     grows : (s : State) → SoundMarks t s → (xs : List Step) → taken t s xs ≡ true → length xs + (2 * potential t s + idle t s) ≤ 5 * t .nodes + 4 * t .links
     grows s sound [] e = let p = potential-below t s in omega arith
@@ -178,3 +173,6 @@ runs-end t s below apart sound xs e =
         let p = and-eq-true-iff (possible t s x) (taken t (effect t s x) xs) .0 e in
         let u = step-rises t s below apart sound x (p .0) in
         let g = grows (effect t s x) (sound-kept t s sound x (p .0)) xs (p .1) in omega arith
+
+pub every-run-ends : (t : Table) → EndsBelow t → NoSelfLink t → RunsEnd t
+every-run-ends t below apart s = runs-end t s below apart

@@ -1,13 +1,3 @@
-pub mod Marks
-pub mod Ends
-pub mod Balance
-pub mod Pieces
-pub mod Peeling
-pub mod Left
-pub mod Course
-pub mod Rest
-pub mod Furthest
-pub mod Election
 pub mod Places
 pub mod Updates
 pub mod Directions
@@ -25,3 +15,10 @@ pub mod AfterResolve
 pub mod AfterChildrenKnown
 pub mod LocalRuns
 pub mod PublishedRuns
+pub mod Ends
+pub mod Into
+pub mod Balance
+pub mod Pieces
+pub mod Peeling
+pub mod Left
+pub mod Course

@@ -1,20 +1,17 @@
 -- One piece as cuts: some link crosses out of every set that holds some of the nodes and not all.
-use Prim.Native.Nat.{ℕ, suc, _+_, _*_, _≤_, _<_}
-use mathlib.Core.Bool.{Bool, true, false, not, cond, _&&_, _||_, and-eq-true-iff}
-use mathlib.Core.Path.{_≡_, refl, ap, sym, _∙_, subst}
-use mathlib.Core.Logic.{_⊎_, inl, inr}
+use Prim.Native.Nat.{ℕ, _≤_, _<_}
+use mathlib.Core.Bool.{Bool, true, false, not, true≢false, false≢true}
+use mathlib.Core.Path.{_≡_, refl, ap, ap₂, sym, _∙_}
 use native.Mathlib.Omega.{arith}
 use native.Mathlib.Decide.{ℕ-discrete}
 use lib.Dec.{ltb, eqb}
 use borrow.Author.Tests.{lt-ltb, eq-eqb, ne-eqb, eqb-true, not-true, not-false}
-use Rattle.counting.specs.Count.{sum, count, bit}
-use Rattle.counting.proofs.Sums.{either, clash, bit-true, bit-false}
-use Rattle.counting.proofs.Directions.{sumBoth, Apart, apart-by, both-pair, both-term}
-use Rattle.paper.specs.Table.{Table, source, target, directions, EndsBelow, NoSelfLink, Joined, here, along, OnePiece}
-use Rattle.paper.specs.State.{State, fresh}
+use Rattle.paper.specs.Table.{Table, source, target, EndsBelow, Joined, here, along, OnePiece}
+use Rattle.paper.specs.State.{fresh}
 use Rattle.paper.specs.Stuck.{linksInto}
-use Rattle.election.proofs.Marks.{at-here, at-else, back}
 use Rattle.paper.specs.Steps.{at}
+use Rattle.election.proofs.Updates.{clash, target-back, at-place, at-other}
+use Rattle.election.proofs.Into.{into-one, into-two}
 
 -- a direction between members of W that leaves S
 pub record Crossing (t : Table) (W S : ℕ → Bool) : Type 0 where
@@ -33,17 +30,17 @@ InOnePiece t W =
 
 -- a path that leaves S crosses
 path-crosses : (t : Table) (W S : ℕ → Bool) → ((i : ℕ) (b : Bool) → i < t .links → W (t .end i b) ≡ true) → (x : ℕ) {y : ℕ} → Joined t x y → S x ≡ true → S y ≡ false → Crossing t W S
-path-crosses t W S ends x here p q = absurd (clash p q)
-path-crosses t W S ends x (along {y = y} j i b l e f) p q = go (either (S y)) (path-crosses t W S ends x j p)
+path-crosses t W S ends x here p q = clash p q
+path-crosses t W S ends x (along {y = y} j i b l e f) p q = go (S y) refl (path-crosses t W S ends x j p)
   where
-    go : (S y ≡ true) ⊎ (S y ≡ false) → (S y ≡ false → Crossing t W S) → Crossing t W S
-    go (inl h) before =
+    go : (a : Bool) → S y ≡ a → (S y ≡ false → Crossing t W S) → Crossing t W S
+    go true h before =
         record { link = i; way = b; known = l; from = ends i b l; to = ends i (not b) l; inner = ap S e ∙ h; outer = ap S f ∙ q }
-    go (inr h) before = before h
+    go false h before = before h
 
--- a direction that leaves the outside of S comes back into it
-turned : (t : Table) (W S : ℕ → Bool) → Crossing t W (λ j. not (S j)) → Crossing t W S
-turned t W S c =
+-- a direction that leaves the outside of S, turned round, leaves S
+turned-round : (t : Table) (W S : ℕ → Bool) → Crossing t W (λ j. not (S j)) → Crossing t W S
+turned-round t W S c =
     let i = c .link in
     let b = c .way in
     record {
@@ -51,165 +48,84 @@ turned t W S c =
       way = not b;
       known = c .known;
       from = c .to;
-      to = ap W (back t i b) ∙ c .from;
+      to = ap W (target-back t i b) ∙ c .from;
       inner = not-false (S (target t i b)) (c .outer);
-      outer = ap S (back t i b) ∙ not-true (S (source t i b)) (c .inner);
+      outer = ap S (target-back t i b) ∙ not-true (S (source t i b)) (c .inner);
     }
 
 -- A table in one piece, by paths: all its nodes are in one piece, by cuts.
 pub fresh-piece : (t : Table) → EndsBelow t → OnePiece t → InOnePiece t (fresh t .waiting)
-fresh-piece t below one S x y l m u v p q = go (either (S 0))
+fresh-piece t below one S x y l m u v p q = go (S 0) refl
   where
-    ends : (i : ℕ) (b : Bool) → i < t .links → ltb (t .end i b) (t .nodes) ≡ true
-    ends i b r = lt-ltb (t .end i b) (t .nodes) (below i b r)
+    crosses : (S : ℕ → Bool) (y : ℕ) → y < t .nodes → S 0 ≡ true → S y ≡ false → Crossing t (fresh t .waiting) S
+    crosses S y m = path-crosses t (fresh t .waiting) S (λ i b r. lt-ltb (t .end i b) (t .nodes) (below i b r)) 0 (one y m)
 
-    go : (S 0 ≡ true) ⊎ (S 0 ≡ false) → Crossing t (fresh t .waiting) S
-    go (inl h) = path-crosses t (fresh t .waiting) S ends 0 (one y m) h q
-    go (inr h) = turned t (fresh t .waiting) S (path-crosses t (fresh t .waiting) (λ j. not (S j)) ends 0 (one x l) (ap not h) (ap not p))
+    go : (a : Bool) → S 0 ≡ a → Crossing t (fresh t .waiting) S
+    go true h = crosses S y m h q
+    go false h = turned-round t (fresh t .waiting) S (crosses (λ j. not (S j)) x l (ap not h) (ap not p))
 
--- still a member without x: a member, and not x
-pub without : (W : ℕ → Bool) (x j : ℕ) → at W x false j ≡ true → (j ≡ x → ⊥) × (W j ≡ true)
-without W x j e = go (ℕ-discrete j x)
+-- where f, changed at x to another value, has the value c: not at x, and f has it
+pub elsewhere : (f : ℕ → Bool) (x : ℕ) {a c : Bool} → (a ≡ c → ⊥) → (j : ℕ) → at f x a j ≡ c → (j ≡ x → ⊥) × (f j ≡ c)
+elsewhere f x {a} {c} d j e = go (ℕ-discrete j x)
   where
-    go : Dec (j ≡ x) → (j ≡ x → ⊥) × (W j ≡ true)
-    go (yes q) = absurd (clash e (ap (at W x false) q ∙ at-here W x false))
-    go (no d) = (d, sym (at-else W x false j d) ∙ e)
+    go : Dec (j ≡ x) → (j ≡ x → ⊥) × (f j ≡ c)
+    go (yes q) = absurd (d (sym (at-place f x a q) ∙ e))
+    go (no n) = (n, sym (at-other f x a n) ∙ e)
 
 module _ (t : Table) (W : ℕ → Bool) (x : ℕ) where
-  isInto : ℕ → Bool → Bool
-  isInto i b = eqb (target t i b) x && W (source t i b)
-
-  -- a direction from W into x
-  into-from : (i : ℕ) (b : Bool) → target t i b ≡ x → W (source t i b) ≡ true → isInto i b ≡ true
-  unfolding isInto
-  into-from i b e w = rw (eq-eqb (target t i b) x e) w
-
-  -- two directions from W into x are two links into W
-  into-pair : (i : ℕ) (b : Bool) (j : ℕ) (c : Bool) → i < t .links → j < t .links → target t i b ≡ x → target t j c ≡ x → W (source t i b) ≡ true → W (source t j c) ≡ true → Apart i b j c → 2 ≤ linksInto t W x
-  unfolding isInto
-  into-pair i b j c l m e f u v d =
-      let r = both-pair (t .links) (λ k a. bit (isInto k a)) i b j c l m d in
-      let p = bit-true (into-from i b e u) in
-      let q = bit-true (into-from j c f v) in omega arith
-
-  -- a direction from W into x is a link into W
-  pub into-one : (i : ℕ) (b : Bool) → i < t .links → target t i b ≡ x → W (source t i b) ≡ true → 1 ≤ linksInto t W x
-  unfolding isInto
-  into-one i b l e u =
-      let r = both-term (t .links) (λ k a. bit (isInto k a)) i b l in
-      let p = bit-true (into-from i b e u) in omega arith
-
-  -- A node with at most one link into W leaves the rest of W in one piece.
-  pub peeled-piece : InOnePiece t W → linksInto t W x ≤ 1 → InOnePiece t (at W x false)
-  peeled-piece piece few S y z l m u v p q = first (piece A y z l m (without W x y u .1) (without W x z v .1) inA outA)
-    where
-      A : ℕ → Bool
-      A j = S j && not (eqb j x)
-
-      B : ℕ → Bool
-      B j = S j || eqb j x
-
-      inA : A y ≡ true
-      inA = rw (p, ne-eqb y x (without W x y u .0)) refl
-
-      outA : A z ≡ false
-      outA = rw q refl
-
-      inB : B y ≡ true
-      inB = rw p refl
-
-      outB : B z ≡ false
-      outB = rw (q, ne-eqb z x (without W x z v .0)) refl
-
-      stays : (j : ℕ) → (j ≡ x → ⊥) → W j ≡ true → at W x false j ≡ true
-      stays j d w = at-else W x false j d ∙ w
-
-      notA : (j : ℕ) → A j ≡ true → (S j ≡ true) × (j ≡ x → ⊥)
-      notA j e =
-          let r = and-eq-true-iff (S j) (not (eqb j x)) .0 e in
-          (r .0, λ g. clash (eq-eqb j x g) (not-true (eqb j x) (r .1)))
-
-      leftA : (j : ℕ) → A j ≡ false → (j ≡ x → ⊥) → S j ≡ false
-      leftA j e d = split (S j) refl
-        where
-          split : (w : Bool) → S j ≡ w → w ≡ false
-          split false g = refl
-          split true g = absurd (clash (rw (g, ne-eqb j x d) refl) e)
-
-      leftB : (j : ℕ) → B j ≡ false → (S j ≡ false) × (j ≡ x → ⊥)
-      leftB j e = split (S j) refl
-        where
-          split : (w : Bool) → S j ≡ w → (S j ≡ false) × (j ≡ x → ⊥)
-          split true g = absurd (clash (rw g refl) e)
-          split false g = (g, λ h. clash (rw (g, eq-eqb j x h) refl) e)
-
-      inB-not : (j : ℕ) → B j ≡ true → (j ≡ x → ⊥) → S j ≡ true
-      inB-not j e d = split (S j) refl
-        where
-          split : (w : Bool) → S j ≡ w → w ≡ true
-          split true g = refl
-          split false g = absurd (clash e (rw (g, ne-eqb j x d) refl))
-
-      second : (c : Crossing t W A) → target t (c .link) (c .way) ≡ x → Crossing t W B → Crossing t (at W x false) S
-      second c e d = go (ℕ-discrete (source t (d .link) (d .way)) x)
-        where
-          i : ℕ
-          i = c .link
-
-          b : Bool
-          b = c .way
-
-          j : ℕ
-          j = d .link
-
-          a : Bool
-          a = d .way
-
-          far : (S (target t j a) ≡ false) × (target t j a ≡ x → ⊥)
-          far = leftB (target t j a) (d .outer)
-
-          go : Dec (source t j a ≡ x) → Crossing t (at W x false) S
-          go (no g) =
-              record {
-                link = j;
-                way = a;
-                known = d .known;
-                from = stays (source t j a) g (d .from);
-                to = stays (target t j a) (far .1) (d .to);
-                inner = inB-not (source t j a) (d .inner) g;
-                outer = far .0;
-              }
-          go (yes g) =
-              let h = into-pair i b j (not a) (c .known) (d .known) e (back t j a ∙ g) (c .from) (d .to) (apart-by (λ k w. S (source t k w)) i b j (not a) (notA (source t i b) (c .inner) .0) (far .0)) in
-              absurd (omega arith)
-
-      first : Crossing t W A → Crossing t (at W x false) S
-      first c = go (ℕ-discrete (target t (c .link) (c .way)) x)
-        where
-          i : ℕ
-          i = c .link
-
-          b : Bool
-          b = c .way
-
-          near : (S (source t i b) ≡ true) × (source t i b ≡ x → ⊥)
-          near = notA (source t i b) (c .inner)
-
-          go : Dec (target t i b ≡ x) → Crossing t (at W x false) S
-          go (yes e) = second c e (piece B y z l m (without W x y u .1) (without W x z v .1) inB outB)
-          go (no d) =
-              record {
-                link = i;
-                way = b;
-                known = c .known;
-                from = stays (source t i b) (near .1) (c .from);
-                to = stays (target t i b) d (c .to);
-                inner = near .0;
-                outer = leftA (target t i b) (c .outer) d;
-              }
-
   -- x and another member of W: x has a link into W
   pub linked : InOnePiece t W → x < t .nodes → W x ≡ true → (y : ℕ) → y < t .nodes → W y ≡ true → (y ≡ x → ⊥) → 1 ≤ linksInto t W x
   linked piece l w y m v d =
       let c = piece (λ j. eqb j x) x y l m w v (eq-eqb x x refl) (ne-eqb y x d) in
-      into-one (c .link) (not (c .way)) (c .known) (back t (c .link) (c .way) ∙ eqb-true (source t (c .link) (c .way)) x (c .inner)) (c .to)
+      into-one t x (λ i b. W (source t i b)) (c .link) (not (c .way)) (c .known) (target-back t (c .link) (c .way) ∙ eqb-true (source t (c .link) (c .way)) x (c .inner)) (c .to)
+
+  -- A node with at most one link into W leaves the rest of W in one piece.
+  pub peeled-piece : InOnePiece t W → linksInto t W x ≤ 1 → InOnePiece t (at W x false)
+  peeled-piece piece few S y z l m u v p q = first (crosses false)
+    where
+      -- y and z are members of W, and not x
+      at-y : (y ≡ x → ⊥) × (W y ≡ true)
+      at-y = elsewhere W x false≢true y u
+
+      at-z : (z ≡ x → ⊥) × (W z ≡ true)
+      at-z = elsewhere W x false≢true z v
+
+      -- S splits W, whether x is counted inside or outside
+      crosses : (a : Bool) → Crossing t W (at S x a)
+      crosses a = piece (at S x a) y z l m (at-y .1) (at-z .1) (at-other S x a (at-y .0) ∙ p) (at-other S x a (at-z .0) ∙ q)
+
+      -- a crossing that does not touch x
+      clear : (a : Bool) (c : Crossing t W (at S x a)) → (source t (c .link) (c .way) ≡ x → ⊥) → (target t (c .link) (c .way) ≡ x → ⊥) → Crossing t (at W x false) S
+      clear a c d e =
+          record {
+            link = c .link;
+            way = c .way;
+            known = c .known;
+            from = at-other W x false d ∙ c .from;
+            to = at-other W x false e ∙ c .to;
+            inner = sym (at-other S x a d) ∙ c .inner;
+            outer = sym (at-other S x a e) ∙ c .outer;
+          }
+
+      -- one crossing goes to x, the other comes from x: two links from x into W
+      second : (c : Crossing t W (at S x false)) → target t (c .link) (c .way) ≡ x → (d : Crossing t W (at S x true)) → Crossing t (at W x false) S
+      second c e d = go (ℕ-discrete (source t (d .link) (d .way)) x)
+        where
+          near : (source t (c .link) (c .way) ≡ x → ⊥) × (S (source t (c .link) (c .way)) ≡ true)
+          near = elsewhere S x false≢true (source t (c .link) (c .way)) (c .inner)
+
+          far : (target t (d .link) (d .way) ≡ x → ⊥) × (S (target t (d .link) (d .way)) ≡ false)
+          far = elsewhere S x true≢false (target t (d .link) (d .way)) (d .outer)
+
+          go : Dec (source t (d .link) (d .way) ≡ x) → Crossing t (at W x false) S
+          go (no n) = clear true d n (far .0)
+          go (yes f) =
+              let two = into-two t x (λ i b. W (source t i b)) (c .link) (c .way) (d .link) (not (d .way)) (c .known) (d .known) e (target-back t (d .link) (d .way) ∙ f) (c .from) (d .to) (λ same. clash (near .1) (sym (ap₂ (λ i b. S (t .end i b)) (same .0) (same .1)) ∙ far .1)) in
+              absurd (omega arith)
+
+      first : Crossing t W (at S x false) → Crossing t (at W x false) S
+      first c = go (ℕ-discrete (target t (c .link) (c .way)) x)
+        where
+          go : Dec (target t (c .link) (c .way) ≡ x) → Crossing t (at W x false) S
+          go (yes e) = second c e (crosses true)
+          go (no n) = clear false c (elsewhere S x false≢true (source t (c .link) (c .way)) (c .inner) .0) n

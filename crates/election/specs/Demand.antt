@@ -2,26 +2,18 @@
 use Prim.Native.Nat.{ℕ, _+_, _*_, _≤_, _<_}
 use mathlib.Core.Bool.{Bool, true, false}
 use mathlib.Core.Path.{_≡_}
-use mathlib.Core.Logic.{_↔_, _⊎_}
+use mathlib.Core.Logic.{_↔_}
 use mathlib.Core.List.{List}
 use lib.ListN.{length}
-use Rattle.counting.specs.Count.{count}
 use Rattle.paper.specs.Table.{Table, source}
 use Rattle.paper.specs.State.{none, State, fresh}
 use Rattle.paper.specs.Steps.{Step, after, taken, Run, Still, resolved}
 use Rattle.paper.specs.Stuck.{Stuck, size, border}
+use Rattle.paper.specs.Report.{roots, waitingCount, outcomeAtRest}
 
 -- no waiting node has a message on a direction out of it
 abbrev pub SoundMarks : Table → State → Type 0
 SoundMarks t s = (i : ℕ) (b : Bool) → i < t .links → s .waiting (source t i b) ≡ true → s .message i b ≡ none
-
--- how many nodes are root
-abbrev pub roots : Table → State → ℕ
-roots t s = count (t .nodes) (s .root)
-
--- how many nodes wait
-abbrev pub waits : Table → State → ℕ
-waits t s = count (t .nodes) (s .waiting)
 
 -- the state that the steps of a run lead to
 abbrev pub reachedBy : Table → List Step → State
@@ -54,23 +46,23 @@ pub record WithLoop (t : Table) (K : ℕ → Bool) : Type 0 where
   pub noneResolved : (xs : List Step) → Run t xs → resolved xs ≡ 0
   -- a run that can go no further took 3(n - k) - t steps
   pub steps : (xs : List Step) → Ended t xs → length xs + border t K + 3 * size t K ≡ 3 * t .nodes
-  -- and exactly the nodes of K still wait
+  -- exactly the nodes of K still wait
   pub stillWait : (xs : List Step) → Ended t xs → (x : ℕ) → x < t .nodes → reachedBy t xs .waiting x ≡ K x
-  -- so that the waiting count is its size
-  pub waitingCount : (xs : List Step) → Ended t xs → waits t (reachedBy t xs) ≡ size t K
-  -- and is not zero
-  pub someWait : (xs : List Step) → Ended t xs → 0 < waits t (reachedBy t xs)
+  -- and the waiting count is its size
+  pub sizeWaits : (xs : List Step) → Ended t xs → waitingCount t (reachedBy t xs) ≡ size t K
 
 -- Of every table:
 pub record StuckSet (t : Table) : Type 0 where
   -- m is at least n - 1
   pub enoughLinks : t .nodes ≤ t .links + 1
-  -- it has a stuck set
+  -- there is a stuck set
   pub exists : (K : ℕ → Bool) × Stuck t K
-  -- and only one
-  pub unique : (K L : ℕ → Bool) → Stuck t K → Stuck t L → (x : ℕ) → x < t .nodes → K x ≡ L x
-  -- which is empty exactly when m = n - 1
+  -- it is empty exactly when m = n - 1
   pub empty : (K : ℕ → Bool) → Stuck t K → (size t K ≡ 0) ↔ (t .links + 1 ≡ t .nodes)
+
+-- there is only one stuck set
+abbrev pub OneStuckSet : Table → Type 0
+OneStuckSet t = (K L : ℕ → Bool) → Stuck t K → Stuck t L → (x : ℕ) → x < t .nodes → K x ≡ L x
 
 -- at most 3n steps can be taken from fresh
 abbrev pub FewSteps : Table → Type 0
@@ -78,9 +70,10 @@ FewSteps t = (xs : List Step) → Run t xs → length xs ≤ 3 * t .nodes
 
 -- from every state with sound marks every run ends
 abbrev pub RunsEnd : Table → Type 0
-RunsEnd t = (s : State) → SoundMarks t s → (xs : List Step) → taken t s xs ≡ true → length xs ≤ 5 * t .nodes + 4 * t .links
+RunsEnd t =
+    (s : State) → SoundMarks t s → (xs : List Step) → taken t s xs ≡ true → length xs ≤ 5 * t .nodes + 4 * t .links
 
--- outcome 4 never follows from fresh: a run that can go no further has exactly one root, or no root, some node waiting and m at least n
+-- outcome 4 never follows from fresh
 abbrev pub NeverOdd : Table → Type 0
 NeverOdd t =
-    (xs : List Step) → Ended t xs → (roots t (reachedBy t xs) ≡ 1) ⊎ ((roots t (reachedBy t xs) ≡ 0) × (0 < waits t (reachedBy t xs)) × (t .nodes ≤ t .links))
+    (xs : List Step) → Ended t xs → outcomeAtRest (t .nodes) (t .links) (roots t (reachedBy t xs)) (waitingCount t (reachedBy t xs)) ≡ 4 → ⊥
