@@ -70,8 +70,8 @@ findBoth m p = go (find m (λ i. p i false)) (find m (λ i. p i true))
 pub handshake : (n m : ℕ) (into : ℕ → Bool → ℕ) (f : ℕ → ℕ → Bool → ℕ) → ((i : ℕ) (b : Bool) → i < m → into i b < n) → sumBoth m (λ i b. f (into i b) i b) ≡ sum n (λ x. sumBoth m (λ i b. cond (eqb (into i b) x) (f x i b) 0))
 handshake n m into f below =
     both-eq m (λ i b. f (into i b) i b) (λ i b. sum n (λ x. g x i b)) (λ i b l. sym (sum-pick n (λ x. f x i b) (into i b) (below i b l)))
-      ∙ (sum-eq m (λ i. sum n (λ x. g x i false) + sum n (λ x. g x i true)) (λ i. sum n (λ x. g x i false + g x i true)) (λ i l. sym (sum-add n (λ x. g x i false) (λ x. g x i true)))
-      ∙ sum-swap m n (λ i x. g x i false + g x i true))
+    ∙ (sum-eq m (λ i. sum n (λ x. g x i false) + sum n (λ x. g x i true)) (λ i. sum n (λ x. g x i false + g x i true)) (λ i l. sym (sum-add n (λ x. g x i false) (λ x. g x i true)))
+    ∙ sum-swap m n (λ i x. g x i false + g x i true))
   where
     g : ℕ → ℕ → Bool → ℕ
     g x i b = cond (eqb (into i b) x) (f x i b) 0
@@ -80,7 +80,7 @@ handshake n m into f below =
 pub handshake-count : (n m : ℕ) (into : ℕ → Bool → ℕ) (p : ℕ → Bool) (q : ℕ → Bool → Bool) → ((i : ℕ) (b : Bool) → i < m → into i b < n) → countBoth m (λ i b. p (into i b) && q i b) ≡ sum n (λ x. cond (p x) (countBoth m (λ i b. eqb (into i b) x && q i b)) 0)
 handshake-count n m into p q below =
     handshake n m into (λ x i b. bit (p x && q i b)) below
-      ∙ sum-eq n (λ x. sumBoth m (λ i b. cond (eqb (into i b) x) (bit (p x && q i b)) 0)) (λ x. cond (p x) (countBoth m (λ i b. eqb (into i b) x && q i b)) 0) (λ x l. node x (p x))
+    ∙ sum-eq n (λ x. sumBoth m (λ i b. cond (eqb (into i b) x) (bit (p x && q i b)) 0)) (λ x. cond (p x) (countBoth m (λ i b. eqb (into i b) x && q i b)) 0) (λ x l. node x (p x))
   where
     inner : (c d : Bool) → cond c (bit d) 0 ≡ bit (c && d)
     inner true d = refl

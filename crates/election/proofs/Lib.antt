@@ -22,3 +22,7 @@ pub mod Pieces
 pub mod Peeling
 pub mod Left
 pub mod Course
+pub mod Closed
+pub mod Rest
+pub mod Furthest
+pub mod Election
