@@ -1,0 +1,4 @@
+pub mod Stored
+pub mod Sent
+pub mod Filled
+pub mod Effects
