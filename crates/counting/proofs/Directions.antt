@@ -2,12 +2,11 @@
 use Prim.Native.Nat.{ℕ, _+_, _<_}
 use mathlib.Core.Bool.{Bool, true, false, not, cond, _&&_}
 use mathlib.Core.Path.{_≡_, refl, ap, sym, _∙_}
-use mathlib.Core.Logic.{_⊎_, inl, inr}
 use native.Mathlib.Omega.{arith}
 use lib.Dec.{eqb}
 use Rattle.counting.specs.Count.{sum, bit}
 use Rattle.counting.proofs.Bits.{bit-true, bit-false}
-use Rattle.counting.proofs.Sums.{sum-add, sum-eq, sum-none, sum-swap, sum-change, sum-pick, Found, find}
+use Rattle.counting.proofs.Sums.{sum-add, sum-eq, sum-none, sum-swap, sum-change, sum-pick}
 
 -- f at the directions (i, false) and (i, true) of every link i below m
 abbrev pub sumBoth : ℕ → (ℕ → Bool → ℕ) → ℕ
@@ -49,22 +48,6 @@ both-gain m p q k c l e f h =
     let z = both-change m (λ i b. bit (p i b)) (λ i b. bit (q i b)) k c l (λ i b r d. ap bit (h i b r d)) in
     let u = bit-false e in
     let v = bit-true f in omega arith
-
--- a direction below m passes the test, or none does
-abbrev pub FoundBoth : ℕ → (ℕ → Bool → Bool) → Type 0
-FoundBoth m p = ((k : ℕ) × (c : Bool) × (k < m) × (p k c ≡ true)) ⊎ ((k : ℕ) (c : Bool) → k < m → p k c ≡ false)
-
-pub findBoth : (m : ℕ) (p : ℕ → Bool → Bool) → FoundBoth m p
-findBoth m p = go (find m (λ i. p i false)) (find m (λ i. p i true))
-  where
-    go : Found m (λ i. p i false) → Found m (λ i. p i true) → FoundBoth m p
-    go (inl w) d = inl (w .0, false, w .1, w .2)
-    go (inr h) (inl w) = inl (w .0, true, w .1, w .2)
-    go (inr h) (inr g) = inr none
-      where
-        none : (k : ℕ) (c : Bool) → k < m → p k c ≡ false
-        none k false = h k
-        none k true = g k
 
 -- The handshake: to sum over the directions is to sum, for every node below n, over the directions into it.
 pub handshake : (n m : ℕ) (into : ℕ → Bool → ℕ) (f : ℕ → ℕ → Bool → ℕ) → ((i : ℕ) (b : Bool) → i < m → into i b < n) → sumBoth m (λ i b. f (into i b) i b) ≡ sum n (λ x. sumBoth m (λ i b. cond (eqb (into i b) x) (f x i b) 0))

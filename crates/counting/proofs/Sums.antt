@@ -1,13 +1,13 @@
 -- Laws of sums and counts over 0, 1, .., n - 1.
 use Prim.Native.Nat.{ℕ, zero, suc, _+_, _*_, _≤_, _<_}
-use mathlib.Core.Bool.{Bool, true, false, not, cond, and-eq-true-iff}
+use mathlib.Core.Bool.{Bool, true, false, not, cond}
 use mathlib.Core.Path.{_≡_, refl, ap, sym, _∙_, subst}
 use mathlib.Core.Logic.{_⊎_, inl, inr}
 use native.Mathlib.Omega.{arith}
 use native.Mathlib.Decide.{ℕ-discrete}
 use lib.Dec.{eqb}
 use borrow.Author.Tests.{eq-eqb, ne-eqb}
-use Rattle.counting.specs.Count.{sum, count, bit, all}
+use Rattle.counting.specs.Count.{sum, count, bit}
 use Rattle.counting.proofs.Bits.{bit-true, bit-false, bit-zero, bit-most, bit-not, bit-mono}
 
 pub sum-add : (n : ℕ) (f g : ℕ → ℕ) → sum n (λ i. f i + g i) ≡ sum n f + sum n g
@@ -178,13 +178,3 @@ count-gain n p q k l e f h =
     let c = sum-change n (λ i. bit (p i)) (λ i. bit (q i)) k l (λ i m d. ap bit (h i m d)) in
     let u = bit-false e in
     let v = bit-true f in omega arith
-
--- where all pass, each does
-pub all-each : (n : ℕ) (p : ℕ → Bool) → all n p ≡ true → (k : ℕ) → k < n → p k ≡ true
-unfolding all
-all-each zero p e k l = absurd (omega arith)
-all-each (suc n) p e k l = let both = and-eq-true-iff (all n p) (p n) .0 e in go (ℕ-discrete k n) (both .1) (all-each n p (both .0) k)
-  where
-    go : Dec (k ≡ n) → p n ≡ true → (k < n → p k ≡ true) → p k ≡ true
-    go (yes q) last below = ap p q ∙ last
-    go (no d) last below = below (omega arith)

@@ -15,7 +15,7 @@ use Rattle.paper.specs.Table.{Table, target, EndsBelow, NoSelfLink, OnePiece}
 use Rattle.paper.specs.State.{State, fresh}
 use Rattle.paper.specs.Steps.{Step, childrenKnown, addChild, acknowledge, resolve, becomeRoot, unheard, possible, effect, after, taken, isResolve, resolved}
 use Rattle.election.specs.Local.{Local}
-use Rattle.election.specs.Demand.{SoundMarks}
+use Rattle.paper.specs.Meanings.{SoundMarks}
 use Rattle.election.proofs.Updates.{at-place}
 use Rattle.election.proofs.Possible.{resolve-possible}
 use Rattle.election.proofs.Unheard.{unheard-le}

@@ -1,6 +1,6 @@
 -- Demand 3 holds of every table and every run.
 use Prim.Native.Nat.{ℕ, _+_, _*_, _≤_, _<_}
-use mathlib.Core.Bool.{Bool, true, false, not, _&&_, and-eq-true-iff}
+use mathlib.Core.Bool.{Bool, true, false, not, cond, _&&_, and-eq-true-iff}
 use mathlib.Core.Path.{_≡_, refl, ap, sym, _∙_}
 use mathlib.Core.Logic.{_⊎_, inl, inr, _↔_}
 use mathlib.Core.List.{List}
@@ -16,7 +16,8 @@ use Rattle.paper.specs.Table.{Table, source, target, EndsBelow, NoSelfLink, One
 use Rattle.paper.specs.State.{State, fresh}
 use Rattle.paper.specs.Steps.{Step, carries, Run, resolved}
 use Rattle.paper.specs.Stuck.{Closed, Stuck, size, border}
-use Rattle.paper.specs.Report.{roots, waitingCount, outcomeAtRest}
+use Rattle.paper.specs.Report.{moving, roots, waitingCount, outcomeAtRest}
+use Rattle.paper.proofs.Moving.{moving-still}
 use Rattle.election.specs.Demand.{reachedBy, Ended, WithoutLoop, WithLoop, StuckSet, OneStuckSet, FewSteps, NeverOdd}
 use Rattle.election.proofs.Updates.{either}
 use Rattle.election.proofs.Directions.{directions-le}
@@ -216,12 +217,19 @@ module _ (t : Table) (one : 1 ≤ t .nodes) (below : EndsBelow t) (apart : NoSel
 
   -- Outcome 4 never follows from fresh.
   pub never-odd : NeverOdd t
-  never-odd xs e = go (end-settled xs e)
+  never-odd xs r = moved (moving t (reachedBy t xs)) refl
     where
-      go : Settled t (reachedBy t xs) → outcomeAtRest (t .nodes) (t .links) (roots t (reachedBy t xs)) (waitingCount t (reachedBy t xs)) ≡ 4 → ⊥
-      go (inl p) = rw (end-root xs e (p .0)) (λ h. omega arith)
-      go (inr p) =
-          rw (never-root (p .1) xs (e .0), lt-ltb 0 (waitingCount t (reachedBy t xs)) (p .0), le-leb (t .nodes) (t .links) (p .1)) (λ h. omega arith)
+      at-rest : ℕ
+      at-rest = outcomeAtRest (t .nodes) (t .links) (roots t (reachedBy t xs)) (waitingCount t (reachedBy t xs))
+
+      rested : Settled t (reachedBy t xs) → Ended t xs → at-rest ≡ 4 → ⊥
+      rested (inl p) e = rw (end-root xs e (p .0)) (λ h. omega arith)
+      rested (inr p) e =
+          rw (never-root (p .1) xs r, lt-ltb 0 (waitingCount t (reachedBy t xs)) (p .0), le-leb (t .nodes) (t .links) (p .1)) (λ h. omega arith)
+
+      moved : (m : Bool) → moving t (reachedBy t xs) ≡ m → cond m 1 at-rest ≡ 4 → ⊥
+      moved true e h = omega arith
+      moved false e h = let ended : Ended t xs = (r, moving-still t (reachedBy t xs) .0 e) in rested (end-settled xs ended) ended h
 
   pub stuck-set : StuckSet t
   stuck-set =

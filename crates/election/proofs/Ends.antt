@@ -16,7 +16,8 @@ use Rattle.paper.specs.Table.{Table, source, target, directions, EndsBelow, NoS
 use Rattle.paper.specs.State.{none, State}
 use Rattle.paper.specs.Steps.{Step, childrenKnown, addChild, acknowledge, resolve, becomeRoot, carries, isRequest, sends, outOf, at, possible, effect, taken, isResolve}
 use Rattle.paper.specs.Report.{roots}
-use Rattle.election.specs.Demand.{SoundMarks, RunsEnd}
+use Rattle.election.specs.Demand.{RunsEnd}
+use Rattle.paper.specs.Meanings.{SoundMarks}
 use Rattle.election.proofs.Updates.{clash, fails, at-place, at-other}
 use Rattle.election.proofs.Messages.{loaded}
 use Rattle.election.proofs.MessageRead.{unread, unread-on, unread-off, still-none}

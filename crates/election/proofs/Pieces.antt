@@ -4,12 +4,13 @@ use mathlib.Core.Bool.{Bool, true, false, not, true≢false, false≢true}
 use mathlib.Core.Path.{_≡_, refl, ap, ap₂, sym, _∙_}
 use native.Mathlib.Omega.{arith}
 use native.Mathlib.Decide.{ℕ-discrete}
-use lib.Dec.{ltb, eqb}
-use borrow.Author.Tests.{lt-ltb, eq-eqb, ne-eqb, eqb-true, not-true, not-false}
-use Rattle.paper.specs.Table.{Table, source, target, EndsBelow, Joined, here, along, OnePiece}
+use lib.Dec.{eqb}
+use borrow.Author.Tests.{lt-ltb, eq-eqb, ne-eqb, eqb-true}
+use Rattle.paper.specs.Table.{Table, source, target, EndsBelow, OnePiece}
 use Rattle.paper.specs.State.{fresh}
 use Rattle.paper.specs.Stuck.{linksInto}
 use Rattle.paper.specs.Steps.{at}
+use Rattle.paper.proofs.OnePiece.{one-piece-cut}
 use Rattle.election.proofs.Updates.{clash, target-back, at-place, at-other}
 use Rattle.election.proofs.Into.{into-one, into-two}
 
@@ -28,41 +29,19 @@ abbrev pub InOnePiece : Table → (ℕ → Bool) → Type 0
 InOnePiece t W =
     (S : ℕ → Bool) (x y : ℕ) → x < t .nodes → y < t .nodes → W x ≡ true → W y ≡ true → S x ≡ true → S y ≡ false → Crossing t W S
 
--- a path that leaves S crosses
-path-crosses : (t : Table) (W S : ℕ → Bool) → ((i : ℕ) (b : Bool) → i < t .links → W (t .end i b) ≡ true) → (x : ℕ) {y : ℕ} → Joined t x y → S x ≡ true → S y ≡ false → Crossing t W S
-path-crosses t W S ends x here p q = clash p q
-path-crosses t W S ends x (along {y = y} j i b l e f) p q = go (S y) refl (path-crosses t W S ends x j p)
-  where
-    go : (a : Bool) → S y ≡ a → (S y ≡ false → Crossing t W S) → Crossing t W S
-    go true h before =
-        record { link = i; way = b; known = l; from = ends i b l; to = ends i (not b) l; inner = ap S e ∙ h; outer = ap S f ∙ q }
-    go false h before = before h
-
--- a direction that leaves the outside of S, turned round, leaves S
-turned-round : (t : Table) (W S : ℕ → Bool) → Crossing t W (λ j. not (S j)) → Crossing t W S
-turned-round t W S c =
-    let i = c .link in
-    let b = c .way in
-    record {
-      link = i;
-      way = not b;
-      known = c .known;
-      from = c .to;
-      to = ap W (target-back t i b) ∙ c .from;
-      inner = not-false (S (target t i b)) (c .outer);
-      outer = ap S (target-back t i b) ∙ not-true (S (source t i b)) (c .inner);
-    }
-
 -- A table in one piece, by paths: all its nodes are in one piece, by cuts.
 pub fresh-piece : (t : Table) → EndsBelow t → OnePiece t → InOnePiece t (fresh t .waiting)
-fresh-piece t below one S x y l m u v p q = go (S 0) refl
-  where
-    crosses : (S : ℕ → Bool) (y : ℕ) → y < t .nodes → S 0 ≡ true → S y ≡ false → Crossing t (fresh t .waiting) S
-    crosses S y m = path-crosses t (fresh t .waiting) S (λ i b r. lt-ltb (t .end i b) (t .nodes) (below i b r)) 0 (one y m)
-
-    go : (a : Bool) → S 0 ≡ a → Crossing t (fresh t .waiting) S
-    go true h = crosses S y m h q
-    go false h = turned-round t (fresh t .waiting) S (crosses (λ j. not (S j)) x l (ap not h) (ap not p))
+fresh-piece t below one S x y l m u v p q =
+    let c = one-piece-cut t one S x y l m p q in
+    record {
+      link = c .0;
+      way = c .1;
+      known = c .2;
+      from = lt-ltb (t .end (c .0) (c .1)) (t .nodes) (below (c .0) (c .1) (c .2));
+      to = lt-ltb (t .end (c .0) (not (c .1))) (t .nodes) (below (c .0) (not (c .1)) (c .2));
+      inner = c .3;
+      outer = c .4;
+    }
 
 -- where f, changed at x to another value, has the value c: not at x, and f has it
 pub elsewhere : (f : ℕ → Bool) (x : ℕ) {a c : Bool} → (a ≡ c → ⊥) → (j : ℕ) → at f x a j ≡ c → (j ≡ x → ⊥) × (f j ≡ c)

@@ -5,15 +5,12 @@ use mathlib.Core.Path.{_≡_}
 use mathlib.Core.Logic.{_↔_}
 use mathlib.Core.List.{List}
 use lib.ListN.{length}
-use Rattle.paper.specs.Table.{Table, source}
-use Rattle.paper.specs.State.{none, State, fresh}
+use Rattle.paper.specs.Table.{Table}
+use Rattle.paper.specs.State.{State, fresh}
 use Rattle.paper.specs.Steps.{Step, after, taken, Run, Still, resolved}
 use Rattle.paper.specs.Stuck.{Stuck, size, border}
-use Rattle.paper.specs.Report.{roots, waitingCount, outcomeAtRest}
-
--- no waiting node has a message on a direction out of it
-abbrev pub SoundMarks : Table → State → Type 0
-SoundMarks t s = (i : ℕ) (b : Bool) → i < t .links → s .waiting (source t i b) ≡ true → s .message i b ≡ none
+use Rattle.paper.specs.Report.{roots, waitingCount, outcomeOf}
+use Rattle.paper.specs.Meanings.{SoundMarks}
 
 -- the state that the steps of a run lead to
 abbrev pub reachedBy : Table → List Step → State
@@ -75,5 +72,4 @@ RunsEnd t =
 
 -- outcome 4 never follows from fresh
 abbrev pub NeverOdd : Table → Type 0
-NeverOdd t =
-    (xs : List Step) → Ended t xs → outcomeAtRest (t .nodes) (t .links) (roots t (reachedBy t xs)) (waitingCount t (reachedBy t xs)) ≡ 4 → ⊥
+NeverOdd t = (xs : List Step) → Run t xs → outcomeOf t (reachedBy t xs) ≡ 4 → ⊥
