@@ -6,7 +6,7 @@ use native.Mathlib.Omega.{arith}
 use native.Mathlib.Decide.{ℕ-discrete}
 use lib.Dec.{eqb}
 use borrow.Author.Tests.{eq-eqb, ne-eqb}
-use Rattle.counting.specs.Count.{sum, count, bit}
+use Rattle.counting.specs.Count.{count, bit}
 use Rattle.counting.proofs.Bits.{bit-true, bit-false}
 use Rattle.counting.proofs.Sums.{sum-add, sum-eq, sum-ones}
 use Rattle.counting.proofs.Directions.{handshake-count}

@@ -1,5 +1,5 @@
 -- What holds along every run: the facts of every state reached, the number of steps, the contentions resolved.
-use Prim.Native.Nat.{ℕ, suc, _+_, _≤_, _<_}
+use Prim.Native.Nat.{ℕ, _+_, _≤_, _<_}
 use mathlib.Core.Bool.{Bool, true, false, not, _&&_, and-eq-true-iff}
 use mathlib.Core.Path.{_≡_, refl, ap}
 use mathlib.Core.Logic.{_⊎_, inl, inr}
@@ -16,7 +16,6 @@ use Rattle.paper.specs.State.{State, fresh}
 use Rattle.paper.specs.Steps.{Step, childrenKnown, addChild, acknowledge, resolve, becomeRoot, unheard, possible, effect, after, taken, isResolve, resolved}
 use Rattle.election.specs.Local.{Local}
 use Rattle.paper.specs.Meanings.{SoundMarks}
-use Rattle.election.proofs.Updates.{at-place}
 use Rattle.election.proofs.Possible.{resolve-possible}
 use Rattle.election.proofs.Unheard.{unheard-le}
 use Rattle.election.proofs.ChildMark.{marked, marked-on, marked-off, kept}

@@ -6,9 +6,9 @@ use mathlib.Core.Logic.{_⊎_, inl, inr, _↔_}
 use mathlib.Core.List.{List}
 use native.Mathlib.Omega.{arith}
 use native.Mathlib.Decide.{ℕ-discrete}
-use lib.Dec.{ltb, leb, eqb}
+use lib.Dec.{ltb}
 use lib.ListN.{length}
-use borrow.Author.Tests.{lt-ltb, le-leb, eq-eqb}
+use borrow.Author.Tests.{lt-ltb, le-leb}
 use Rattle.counting.specs.Count.{bit}
 use Rattle.counting.proofs.Sums.{sum-add, sum-eq, sum-ones, sum-twice, count-none, count-not, count-zero}
 use Rattle.counting.proofs.Directions.{both-eq, both-none}
@@ -18,10 +18,10 @@ use Rattle.paper.specs.Steps.{Step, carries, Run, resolved}
 use Rattle.paper.specs.Stuck.{Closed, Stuck, size, border}
 use Rattle.paper.specs.Report.{moving, roots, waitingCount, outcomeAtRest}
 use Rattle.paper.proofs.Moving.{moving-still}
-use Rattle.election.specs.Demand.{reachedBy, Ended, WithoutLoop, WithLoop, StuckSet, OneStuckSet, FewSteps, NeverOdd}
+use Rattle.election.specs.Demand.{reachedBy, Ended, WithoutLoop, WithLoop, StuckSet, OneStuckSet, FewSteps, NeverOdd, Demand}
 use Rattle.election.proofs.Updates.{either}
 use Rattle.election.proofs.Directions.{directions-le}
-use Rattle.election.proofs.Ends.{stopped, isDone, done, potential}
+use Rattle.election.proofs.Ends.{stopped, isDone, done, potential, every-run-ends}
 use Rattle.election.proofs.Balance.{inside}
 use Rattle.election.proofs.Left.{full, Left}
 use Rattle.election.proofs.Closed.{AllWait, closed-waits}
@@ -258,3 +258,16 @@ module _ (t : Table) (one : 1 ≤ t .nodes) (below : EndsBelow t) (apart : NoSel
 
 pub without-loop : (t : Table) → EndsBelow t → NoSelfLink t → OnePiece t → t .links + 1 ≡ t .nodes → WithoutLoop t
 without-loop t below apart joined h = no-loop t (omega arith) below apart joined h
+
+-- All of demand 3, of a table with at least one node, whose links join two different nodes each, in one piece.
+pub demand : (t : Table) → 1 ≤ t .nodes → EndsBelow t → NoSelfLink t → OnePiece t → Demand t
+demand t one below apart joined =
+    record {
+      withoutLoop = without-loop t below apart joined;
+      withLoop = with-loop t one below apart joined;
+      stuckSet = stuck-set t one below apart joined;
+      oneStuckSet = one-stuck-set t;
+      fewSteps = few-steps t one below apart joined;
+      runsEnd = every-run-ends t below apart;
+      neverOdd = never-odd t one below apart joined;
+    }

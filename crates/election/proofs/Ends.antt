@@ -1,14 +1,13 @@
 -- Every run ends: the potential rises by one at every step but a resolved contention, which leaves it.
-use Prim.Native.Nat.{ℕ, suc, _+_, _*_, _≤_, _<_}
+use Prim.Native.Nat.{ℕ, _+_, _*_, _≤_, _<_}
 use mathlib.Core.Bool.{Bool, true, false, not, cond, _&&_, and-false, and-eq-true-iff}
 use mathlib.Core.Path.{_≡_, refl, ap, sym, _∙_}
 use mathlib.Core.List.{List, [], _∷_}
 use native.Mathlib.Omega.{arith}
 use native.Mathlib.Decide.{ℕ-discrete}
-use lib.Dec.{eqb}
 use lib.ListN.{length}
 use borrow.Author.Tests.{lt-ltb, eq-eqb, ne-eqb}
-use Rattle.counting.specs.Count.{sum, count, bit}
+use Rattle.counting.specs.Count.{count, bit}
 use Rattle.counting.proofs.Bits.{bit-most}
 use Rattle.counting.proofs.Sums.{sum-add, sum-le, sum-ones, sum-change, count-below, count-gain}
 use Rattle.counting.proofs.Directions.{both-eq, both-gain}

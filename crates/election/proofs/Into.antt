@@ -1,14 +1,14 @@
 -- Counts of the directions into a node that pass a test.
 use Prim.Native.Nat.{ℕ, _≤_, _<_}
-use mathlib.Core.Bool.{Bool, true, false, _&&_, and-eq-true-iff}
-use mathlib.Core.Path.{_≡_, refl}
+use mathlib.Core.Bool.{Bool, true, _&&_, and-eq-true-iff}
+use mathlib.Core.Path.{_≡_}
 use lib.Dec.{eqb}
 use borrow.Author.Tests.{eq-eqb, eqb-true}
 use Rattle.counting.specs.Count.{bit}
 use Rattle.counting.proofs.Bits.{bit-false}
 use Rattle.counting.proofs.Directions.{both-none}
 use Rattle.paper.specs.Table.{Table, target, directions}
-use Rattle.election.proofs.Updates.{clash, fails, Same}
+use Rattle.election.proofs.Updates.{fails, Same}
 use Rattle.election.proofs.Directions.{directions-le, directions-one, directions-two}
 
 module _ (t : Table) (x : ℕ) where

@@ -1,7 +1,7 @@
 -- Full nodes and bare links: never two of them, and none on a table with a loop.
-use Prim.Native.Nat.{ℕ, _+_, _≤_, _<_}
-use mathlib.Core.Bool.{Bool, true, false, not, _&&_, and-eq-true-iff}
-use mathlib.Core.Path.{_≡_, refl, ap, sym, _∙_}
+use Prim.Native.Nat.{ℕ, _+_, _<_}
+use mathlib.Core.Bool.{true, false, not, _&&_, and-eq-true-iff}
+use mathlib.Core.Path.{_≡_, ap, sym, _∙_}
 use mathlib.Core.Logic.{_⊎_, inl, inr}
 use native.Mathlib.Omega.{arith}
 use native.Mathlib.Decide.{ℕ-discrete}
@@ -14,7 +14,7 @@ use Rattle.paper.specs.Steps.{unheard}
 use Rattle.paper.specs.Report.{waitingCount}
 use Rattle.election.specs.Local.{Local}
 use Rattle.election.proofs.Updates.{fails, passes, either}
-use Rattle.election.proofs.Balance.{inside, bare, isFull, fullStopped, balance}
+use Rattle.election.proofs.Balance.{bare, isFull, fullStopped, balance}
 use Rattle.election.proofs.Pieces.{linked}
 use Rattle.election.proofs.Peeling.{Peeled, waiting-unheard}
 

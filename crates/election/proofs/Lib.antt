@@ -26,3 +26,4 @@ pub mod Closed
 pub mod Rest
 pub mod Furthest
 pub mod Election
+pub mod Examples

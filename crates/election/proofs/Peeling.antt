@@ -7,7 +7,7 @@ use lib.Dec.{eqb}
 use borrow.Author.Tests.{lt-ltb, ne-eqb, eqb-true}
 use Rattle.counting.specs.Count.{count, bit}
 use Rattle.counting.proofs.Sums.{sum-add, sum-eq, count-all, count-none, count-witness, count-zero, count-gain}
-use Rattle.paper.specs.Table.{Table, source, target, EndsBelow, NoSelfLink, OnePiece}
+use Rattle.paper.specs.Table.{Table, source, EndsBelow, NoSelfLink, OnePiece}
 use Rattle.paper.specs.State.{State, fresh}
 use Rattle.paper.specs.Stuck.{linksInto}
 use Rattle.paper.specs.Steps.{Step, childrenKnown, addChild, acknowledge, resolve, becomeRoot, unheard, at, possible, effect}

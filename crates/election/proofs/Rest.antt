@@ -5,9 +5,9 @@ use mathlib.Core.Path.{_≡_, refl, ap, _∙_}
 use mathlib.Core.Logic.{_⊎_, inl, inr, ⊎-elim}
 use native.Mathlib.Omega.{arith}
 use native.Mathlib.Decide.{ℕ-discrete, decLt}
-use lib.Dec.{ltb, leb, eqb}
-use borrow.Author.Tests.{lt-ltb, le-leb, eq-eqb, eqb-true, not-true}
-use Rattle.counting.specs.Count.{count, bit}
+use lib.Dec.{ltb, leb}
+use borrow.Author.Tests.{lt-ltb, le-leb, eq-eqb, not-true}
+use Rattle.counting.specs.Count.{bit}
 use Rattle.counting.proofs.Sums.{sum-add, sum-ones, count-none, count-le, count-zero}
 use Rattle.counting.proofs.Directions.{both-eq}
 use Rattle.paper.specs.Table.{Table, source, target, directions, EndsBelow, NoSelfLink}

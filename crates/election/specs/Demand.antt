@@ -73,3 +73,13 @@ RunsEnd t =
 -- outcome 4 never follows from fresh
 abbrev pub NeverOdd : Table → Type 0
 NeverOdd t = (xs : List Step) → Run t xs → outcomeOf t (reachedBy t xs) ≡ 4 → ⊥
+
+-- All of demand 3:
+pub record Demand (t : Table) : Type 0 where
+  pub withoutLoop : t .links + 1 ≡ t .nodes → WithoutLoop t
+  pub withLoop : t .nodes ≤ t .links → (K : ℕ → Bool) → Stuck t K → WithLoop t K
+  pub stuckSet : StuckSet t
+  pub oneStuckSet : OneStuckSet t
+  pub fewSteps : FewSteps t
+  pub runsEnd : RunsEnd t
+  pub neverOdd : NeverOdd t
