@@ -37,6 +37,7 @@ outside t K = directions t (λ i b. not (K (source t i b)))
 abbrev pub Settled : Table → State → Type 0
 Settled t s = ((waitingCount t s ≡ 0) × (t .links + 1 ≡ t .nodes)) ⊎ ((0 < waitingCount t s) × (t .nodes ≤ t .links))
 
+-- the tests of a step that names k
 both-true : (n k : ℕ) (p q : Bool) → k < n → p ≡ true → q ≡ true → (ltb k n && (p && q)) ≡ true
 both-true n k p q l e f = rw (lt-ltb k n l, e, f) refl
 
