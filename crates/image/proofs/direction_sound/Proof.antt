@@ -1,4 +1,7 @@
 use borrow.Author.Needs.{needs}
+use denote.Ref.{now}
+use Rattle.paper.specs.Table.{tableOf}
+use Rattle.image.proofs.Judged.{direction-judged}
 use Rattle.image.proofs.direction_sound.Statement.{statement}
 use Rattle.image.proofs.direction_sound.Tie as tie
 use Rattle.image.proofs.direction_sound.Reads as reads
@@ -33,7 +36,9 @@ carrying-requires c κs = search needs
 
 -- src/lib.rt:25:1
 returns : tie.Need-returns
-returns c = cc
+returns c =
+    let at = c .before .before .before .before .before .before .before in
+    direction-judged (tableOf (now (at .args .upload))) (now (at .args .image)) (at .args .i) (at .args .back) _ _ _ _ _ (c .before .before .before .before .direction-at .ensures .0) (c .before .before .before .byte .ensures .0) (c .before .before .end .ensures .0) (c .before .waiting .ensures) (c .carrying .ensures)
 
 pub direction-sound-spec : {M : Type 1} → statement M
 direction-sound-spec =

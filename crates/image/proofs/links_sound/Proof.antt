@@ -9,6 +9,7 @@ use Rattle.counting.specs.Count.{all}
 use Rattle.paper.specs.Upload.{linksOf}
 use Rattle.paper.specs.Table.{tableOf}
 use Rattle.paper.specs.Image.{soundDirection}
+use Rattle.image.proofs.Judged.{both-same}
 use Rattle.image.proofs.links_sound.Statement.{statement}
 use Rattle.image.proofs.links_sound.Tie as tie
 use Rattle.image.proofs.links_sound.Reads as reads
@@ -48,7 +49,7 @@ loop-again : tie.Need-loop-again Inv-loop μ-loop
 unfolding all
 loop-again c =
     let at = c .before .before .loop in
-    (search needs, rw (add-one (at .i)) (cc))
+    (search needs, rw (add-one (at .i)) (both-same (at .good) (c .link-sound .result) (at .inv .1) (c .link-sound .ensures)))
 
 -- src/lib.rt:43:1
 returns : tie.Need-returns Inv-loop μ-loop

@@ -7,6 +7,7 @@ use lib.Dec.{ltb}
 use denote.Ref.{now}
 use Rattle.counting.specs.Count.{all}
 use Rattle.paper.specs.Upload.{byteAt, nodesOf}
+use Rattle.image.proofs.Judged.{both-same}
 use Rattle.image.proofs.nodes_sound.Statement.{statement}
 use Rattle.image.proofs.nodes_sound.Tie as tie
 use Rattle.image.proofs.nodes_sound.Reads as reads
@@ -46,7 +47,7 @@ loop-again : tie.Need-loop-again Inv-loop μ-loop
 unfolding all
 loop-again c =
     let at = c .before .before .loop in
-    (search needs, rw (add-one (at .x)) (cc))
+    (search needs, rw (add-one (at .x)) (both-same (at .good) (c .node-sound .result) (at .inv .1) (c .node-sound .ensures)))
 
 -- src/lib.rt:43:1
 returns : tie.Need-returns Inv-loop μ-loop

@@ -1,8 +1,6 @@
 use borrow.Author.Needs.{needs}
 use native.Mathlib.Omega.{arith}
-use mathlib.Core.Path.{sym, _∙_}
-use borrow.Author.Tests.{eq-eqb, ne-eqb}
-use Rattle.image.specs.Parts.{sent}
+use Rattle.image.proofs.Sent.{sent-here, sent-away}
 use Rattle.counting.proofs.Bits.{bit-most}
 use Rattle.image.proofs.send.Statement.{statement}
 use Rattle.image.proofs.send.Tie as tie
@@ -51,17 +49,17 @@ same-length c = search needs
 
 -- src/lib.rt:182:1
 returns : tie.Need-returns
-unfolding sent
 returns c =
     let at = c .before .before .before .before .before .before .before .before .before in
     let here = c .before .before .before .before .before in
-    rw (eq-eqb _ _ (sym (here .before .end .ensures .0) ∙ here .if1 .taken)) (cc)
+    sent-here _ (at .args .x) (at .args .i) (at .args .back) _ (here .before .end .result) (here .before .end .ensures .0) _ _ (c .before .before .child .result) (here .if1 .taken)
+    (c .before .before .before .before .direction-at .ensures .0) (c .before .before .child .ensures) (c .message-byte .ensures)
 
 -- src/lib.rt:182:1
 returns-2 : tie.Need-returns-2
-unfolding sent
 returns-2 c =
-    rw (ne-eqb _ _ (λ e. c .if1 .left (c .before .end .ensures .0 ∙ e)))
+    let at = c .before .before .before .before in
+    sent-away _ (at .args .x) (at .args .i) (at .args .back) _ (c .before .end .result) (c .before .end .ensures .0) (c .if1 .left)
 
 pub send-spec : {M : Type 1} → statement M
 send-spec =

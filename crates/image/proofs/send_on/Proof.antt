@@ -1,6 +1,6 @@
 use borrow.Author.Needs.{needs}
 use Rattle.image.proofs.Effects.{lent-kept}
-use Rattle.image.specs.Parts.{sentOn}
+use Rattle.image.proofs.Sent.{sent-both}
 use Rattle.image.proofs.send_on.Statement.{statement}
 use Rattle.image.proofs.send_on.Tie as tie
 use Rattle.image.proofs.send_on.Reads as reads
@@ -23,8 +23,9 @@ same-length c = search needs
 
 -- src/lib.rt:194:1
 returns : tie.Need-returns
-unfolding sentOn
-returns c = cc
+returns c =
+    let at = c .before .before .before .before .before .before .before .before .before .before in
+    sent-both _ (at .args .x) (at .args .i) _ _ _ (c .before .before .before .before .before .before .send .ensures) (c .before .before .send2 .ensures)
 
 pub send-on-spec : {M : Type 1} → statement M
 send-on-spec = tie.close (tie.spec send-requires send-requires-2 same-length returns)

@@ -1,4 +1,5 @@
 use borrow.Author.Needs.{needs}
+use Rattle.image.proofs.Judged.{both-same}
 use Rattle.paper.specs.Image.{sound}
 use Rattle.image.proofs.sound.Statement.{statement}
 use Rattle.image.proofs.sound.Tie as tie
@@ -18,7 +19,7 @@ links-sound-requires c κs = search needs
 -- src/lib.rt:73:1
 returns : tie.Need-returns
 unfolding sound
-returns c = cc
+returns c = both-same _ _ (c .before .nodes-sound .ensures) (c .links-sound .ensures)
 
 pub sound-spec : {M : Type 1} → statement M
 sound-spec = tie.close (tie.spec nodes-sound-requires links-sound-requires returns)
