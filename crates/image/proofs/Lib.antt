@@ -1,3 +1,4 @@
+pub mod Judged
 pub mod Stored
 pub mod Sent
 pub mod Filled
