@@ -4,3 +4,4 @@ pub mod Sent
 pub mod Filled
 pub mod Effects
 pub mod Kept
+pub mod Unique
