@@ -1,3 +1,4 @@
 pub mod Order
 pub mod Folds
 pub mod Checked
+pub mod Answers

@@ -1,11 +1,13 @@
 // The public calls: fresh, report, list, step, run and replay, each with every refusal and place in document 01's order.
 ghost use mathlib.Core.Path.{_≡_};
-ghost use mathlib.Core.Bool.{_&&_};
+ghost use mathlib.Core.Bool.{true, _&&_};
 ghost use Prim.Native.Nat.{_+_, _*_, _<_, _≤_};
 ghost use Rattle.paper.specs.Table.{tableOf};
-ghost use Rattle.paper.specs.Image.{fits, sound};
+ghost use Rattle.paper.specs.Image.{fits, sound, stateOf};
 ghost use Rattle.paper.specs.Refusals.{tableRefusal};
-ghost use Rattle.paper.specs.Calls.{refusedWith};
+ghost use Rattle.paper.specs.Calls.{refusedWith, reported, reportAnswer, freshAnswer, freshImage, stepAnswer, stepImage};
+ghost use Rattle.marks.specs.Lent.{Lent};
+ghost use Rattle.replay.specs.Taken.{Taken};
 ghost use Rattle.table.specs.Accepted.{Accepted};
 
 // A refusal that is not of an action.
@@ -51,4 +53,78 @@ fn good_image(upload: &[u8], image: &[u8]) -> bool
     } else {
         false
     }
+}
+
+// The report of a lent image, behind a refusal, its place and the steps taken.
+fn reporting(upload: &[u8], image: &[u8], number: u8, place: u16, steps: u16) -> paper::Answer
+    requires { ⌜ Lent (now upload) (now image) ⌝ }
+    ensures { λ r. ⌜ r ≡ reported (record { number = number; place = place }) steps (tableOf (now (upload .entry))) (stateOf (tableOf (now (upload .entry))) (now (image .entry))) ⌝ }
+{
+    let report = automaton::report_of(upload, image);
+    paper::Answer {
+        refusal: number,
+        place: place,
+        steps: steps,
+        outcome: report.outcome,
+        root: report.root,
+        waiting: report.waiting,
+    }
+}
+
+// Report: of a lent image.
+pub fn report(upload: &[u8], image: &[u8]) -> paper::Answer
+    ensures { λ r. ⌜ r ≡ reportAnswer (now (upload .entry)) (now (image .entry)) ⌝ }
+{
+    let checked = table_answer(upload);
+    if checked.refusal != 0 {
+        return checked;
+    }
+    if !good_image(upload, image) {
+        return refused(12, 0);
+    }
+    reporting(upload, image, 0, 0, 0)
+}
+
+// Fresh: makes the fresh image.
+pub fn fresh(upload: &[u8], image: &mut [u8]) -> paper::Answer
+    ensures { λ r. ⌜ r ≡ freshAnswer (now (upload .entry)) (now (image .entry)) ⌝ }
+    ensures { λ _. ⌜ now (image .exit) ≡ freshImage (now (upload .entry)) (now (image .entry)) ⌝ }
+{
+    let checked = table_answer(upload);
+    if checked.refusal != 0 {
+        return checked;
+    }
+    if !fitting(upload, image) {
+        return refused(12, 0);
+    }
+    image::make_fresh(upload, image);
+    reporting(upload, image, 0, 0, 0)
+}
+
+// Takes an action if it can be taken, and answers the number by which it is refused, 0 if it is taken.
+fn act(upload: &[u8], image: &mut [u8], kind: u8, x: u8, y: u8) -> u8
+    requires { ⌜ Lent (now upload) (now image) × (sound (tableOf (now upload)) (now image) ≡ true) ⌝ }
+    ensures { λ r. ⌜ Taken (now (upload .entry)) (now (image .entry)) kind x y r (now (image .exit)) ⌝ }
+{
+    let tried = automaton::try_action(upload, image, kind, x, y);
+    if tried.number == 0 {
+        image::take(upload, image, kind, x as usize, tried.link, tried.back);
+    }
+    tried.number
+}
+
+// Step: one action on a lent image, as action 0.
+pub fn step(upload: &[u8], image: &mut [u8], kind: u8, x: u8, y: u8) -> paper::Answer
+    ensures { λ r. ⌜ r ≡ stepAnswer (now (upload .entry)) (now (image .entry)) kind x y ⌝ }
+    ensures { λ _. ⌜ now (image .exit) ≡ stepImage (now (upload .entry)) (now (image .entry)) kind x y ⌝ }
+{
+    let checked = table_answer(upload);
+    if checked.refusal != 0 {
+        return checked;
+    }
+    if !good_image(upload, image) {
+        return refused(12, 0);
+    }
+    let number = act(upload, image, kind, x, y);
+    reporting(upload, image, number, 0, (number == 0) as u16)
 }
