@@ -4,3 +4,5 @@ pub mod Checked
 pub mod Answers
 pub mod Acted
 pub mod Stepped
+pub mod Replaying
+pub mod Replayed

@@ -2,12 +2,14 @@
 ghost use mathlib.Core.Path.{_≡_};
 ghost use mathlib.Core.Bool.{true, _&&_};
 ghost use Prim.Native.Nat.{_+_, _*_, _<_, _≤_};
+ghost use Rattle.paper.specs.Upload.{byteAt, actionsOf, actionAt};
 ghost use Rattle.paper.specs.Table.{tableOf};
-ghost use Rattle.paper.specs.Image.{fits, sound, stateOf};
+ghost use Rattle.paper.specs.Image.{imageLength, fits, sound, stateOf};
 ghost use Rattle.paper.specs.Refusals.{tableRefusal};
-ghost use Rattle.paper.specs.Calls.{refusedWith, reported, reportAnswer, freshAnswer, freshImage, stepAnswer, stepImage};
+ghost use Rattle.paper.specs.Calls.{refusedWith, reported, reportAnswer, freshAnswer, freshImage, stepAnswer, stepImage, replayed, replayAnswer};
 ghost use Rattle.marks.specs.Lent.{Lent};
 ghost use Rattle.replay.specs.Taken.{Taken};
+ghost use Rattle.replay.specs.Replaying.{ReplayedTo};
 ghost use Rattle.table.specs.Accepted.{Accepted};
 
 // A refusal that is not of an action.
@@ -35,12 +37,20 @@ fn table_answer(upload: &[u8]) -> paper::Answer
     }
 }
 
+// n + 2m.
+fn image_length(upload: &[u8]) -> usize
+    requires { ⌜ Accepted (now upload) ⌝ }
+    ensures { λ r. ⌜ (r ≡ imageLength (tableOf (now (upload .entry)))) × (r ≤ 315) ⌝ }
+{
+    upload::nodes(upload) + 2 * upload::links(upload)
+}
+
 // The image has n + 2m bytes.
 fn fitting(upload: &[u8], image: &[u8]) -> bool
     requires { ⌜ Accepted (now upload) ⌝ }
     ensures { λ r. ⌜ r ≡ fits (tableOf (now (upload .entry))) (now (image .entry)) ⌝ }
 {
-    image.len() == upload::nodes(upload) + 2 * upload::links(upload)
+    image.len() == image_length(upload)
 }
 
 // The image has n + 2m bytes and is sound.
@@ -127,4 +137,68 @@ pub fn step(upload: &[u8], image: &mut [u8], kind: u8, x: u8, y: u8) -> paper::A
     }
     let number = act(upload, image, kind, x, y);
     reporting(upload, image, number, 0, (number == 0) as u16)
+}
+
+// Where a replay has come to: the refusal of its first refused action with its place, and the number of actions taken.
+struct Stopped {
+    number: u8,
+    place: u16,
+    steps: u16,
+}
+
+// Tries action i of an upload on a lent image.
+fn act_at(upload: &[u8], image: &mut [u8], i: usize) -> u8
+    requires { ⌜ Lent (now upload) (now image) × (sound (tableOf (now upload)) (now image) ≡ true) × (i < actionsOf (now upload)) ⌝ }
+    ensures { λ r. ⌜ Taken (now (upload .entry)) (now (image .entry)) (byteAt (now (upload .entry)) (actionAt (now (upload .entry)) i)) (byteAt (now (upload .entry)) (actionAt (now (upload .entry)) i + 1)) (byteAt (now (upload .entry)) (actionAt (now (upload .entry)) i + 2)) r (now (image .exit)) ⌝ }
+{
+    let at = 4 + 2 * upload::links(upload) + 3 * i;
+    act(upload, image, upload[at], upload[at + 1], upload[at + 2])
+}
+
+// Makes the image fresh and takes the actions in turn, until one is refused or none is left.
+fn replay_into(upload: &[u8], image: &mut [u8]) -> Stopped
+    requires { ⌜ Lent (now upload) (now image) ⌝ }
+    ensures { λ r. ⌜ ReplayedTo (now (upload .entry)) r (now (image .exit)) ⌝ }
+{
+    image::make_fresh(upload, image);
+    let a = upload::actions(upload);
+    let mut i: usize = 0;
+    while i < a {
+        let number = act_at(upload, image, i);
+        if number != 0 {
+            return Stopped {
+                number: number,
+                place: i as u16,
+                steps: i as u16,
+            };
+        }
+        i += 1;
+    }
+    Stopped {
+        number: 0,
+        place: 0,
+        steps: a as u16,
+    }
+}
+
+// Replays into a lent image, and reports.
+fn replay_on(upload: &[u8], image: &mut [u8]) -> paper::Answer
+    requires { ⌜ Lent (now upload) (now image) ⌝ }
+    ensures { λ r. ⌜ r ≡ reported (replayed (now (upload .entry)) .refusal) (replayed (now (upload .entry)) .steps) (tableOf (now (upload .entry))) (replayed (now (upload .entry)) .state) ⌝ }
+{
+    let stopped = replay_into(upload, image);
+    reporting(upload, image, stopped.number, stopped.place, stopped.steps)
+}
+
+// Replay: the actions of an upload, from the fresh state.
+pub fn replay(upload: &[u8]) -> paper::Answer
+    ensures { λ r. ⌜ r ≡ replayAnswer (now (upload .entry)) ⌝ }
+{
+    let checked = table_answer(upload);
+    if checked.refusal != 0 {
+        return checked;
+    }
+    let mut buffer: [u8; 315] = [0; 315];
+    let k = image_length(upload);
+    replay_on(upload, &mut buffer[..k])
 }
