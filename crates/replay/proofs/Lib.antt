@@ -6,3 +6,4 @@ pub mod Acted
 pub mod Stepped
 pub mod Replaying
 pub mod Replayed
+pub mod Unique
