@@ -1,0 +1,26 @@
+-- No second answer meets the contract of a public function of this crate.
+use mathlib.Core.Path.{refl}
+use Rattle.determined.specs.Determined.{Determined}
+use Rattle.determined.proofs.Equations.{same, lent, unlent}
+use Rattle.replay_c.proofs.word
+use Rattle.replay_c.proofs.replay_fresh
+use Rattle.replay_c.proofs.replay_report
+use Rattle.replay_c.proofs.replay_step
+use Rattle.replay_c.proofs.replay_upload
+
+pub word-determined : Determined word.Kinds.ps word.Kinds.r word.Reads.Pre word.Reads.Learnt
+word-determined κs a pre z z′ w w′ p q = (same (p .word) (q .word), refl)
+
+pub replay-fresh-determined : Determined replay_fresh.Kinds.ps replay_fresh.Kinds.r replay_fresh.Reads.Pre replay_fresh.Reads.Learnt
+replay-fresh-determined κs a pre z z′ w w′ p q =
+    (same (p .0 .word) (q .0 .word), unlent (lent (p .1) (q .1) refl))
+
+pub replay-report-determined : Determined replay_report.Kinds.ps replay_report.Kinds.r replay_report.Reads.Pre replay_report.Reads.Learnt
+replay-report-determined κs a pre z z′ w w′ p q = (same (p .word) (q .word), refl)
+
+pub replay-step-determined : Determined replay_step.Kinds.ps replay_step.Kinds.r replay_step.Reads.Pre replay_step.Reads.Learnt
+replay-step-determined κs a pre z z′ w w′ p q =
+    (same (p .0 .word) (q .0 .word), unlent (lent (p .1) (q .1) refl))
+
+pub replay-upload-determined : Determined replay_upload.Kinds.ps replay_upload.Kinds.r replay_upload.Reads.Pre replay_upload.Reads.Learnt
+replay-upload-determined κs a pre z z′ w w′ p q = (same (p .word) (q .word), refl)
