@@ -1,10 +1,12 @@
 -- The lines of a list of answers are the lines of its answers one after another.
-use Prim.Native.Nat.{ℕ, zero, suc, _+_, _≤_}
+use Prim.Native.Nat.{ℕ, zero, suc, _+_, _≤_, _<_}
 use mathlib.Core.Path.{_≡_, refl, ap, sym, _∙_}
 use mathlib.Core.List.{List, [], _∷_, _++_, append-assoc, append-nil}
 use native.Mathlib.Omega.{arith}
 use native.Mathlib.Nat.{add-zero, zero-add, add-suc, suc-add}
-use lib.ListN.{length, length-append}
+use native.Mathlib.Numerals.{add-one}
+use lib.ListN.{length, take, getD, length-append}
+use lib.Seq.{take-suc, length-take-le}
 use Rattle.counting.specs.Count.{listOf, joined}
 use Rattle.paper.specs.declared.Answer.{Answer}
 use Rattle.paper.specs.Lines.{decimal, space, newline, lineOf, linesFrom}
@@ -46,3 +48,16 @@ lines-joined zero f = refl
 lines-joined (suc n) f =
     lines-append 0 (listOf n f) (f n ∷ [])
     ∙ rw (lines-joined n f, length-listOf n f, zero-add n, append-nil (lineOf n (f n)))
+
+-- what stands past the end of an array of answers
+abbrev pub unwritten : Answer
+unwritten = record { refusal = 0; place = 0; steps = 0; outcome = 0; root = 0; waiting = 0 }
+
+-- one answer more, one line more
+pub lines-next : (i : ℕ) (xs : List Answer) (d : Answer) → i < length xs → linesFrom 0 (take i xs) ++ lineOf i (getD xs i d) ≡ linesFrom 0 (take (i + 1) xs)
+unfolding linesFrom
+lines-next i xs d h =
+    sym
+    (rw (add-one i, take-suc xs i d h)
+    (lines-append 0 (take i xs) (getD xs i d ∷ [])
+    ∙ rw (length-take-le i xs (omega arith), zero-add i, append-nil (lineOf i (getD xs i d)))))

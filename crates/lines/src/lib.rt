@@ -1,8 +1,9 @@
 // The printed lines as bytes, into a lent buffer: a byte past its end is not written, and the place goes on all the same.
 ghost use mathlib.Core.Path.{_≡_};
 ghost use mathlib.Core.List.{_∷_, []};
-ghost use Prim.Native.Nat.{_+_, _-_, _<_, _≤_, _^_};
-ghost use Rattle.paper.specs.Lines.{digits, decimal, space, lineOf};
+ghost use lib.ListN.{take};
+ghost use Prim.Native.Nat.{_+_, _-_, _*_, _<_, _≤_, _^_};
+ghost use Rattle.paper.specs.Lines.{digits, decimal, space, lineOf, linesFrom};
 ghost use Rattle.lines.specs.Wrote.{Wrote, Below, three};
 
 // One byte, where the buffer has room for it.
@@ -71,4 +72,19 @@ pub fn put_line(out: &mut [u8], at: usize, number: usize, answer: paper::Answer)
     let middle = put_three(out, first, refusal, place, steps);
     let last = put_three(out, middle, outcome, root, waiting);
     put(out, last, 10)
+}
+
+// The lines of the first answers, so many of them, from the buffer's start.
+fn put_lines(out: &mut [u8], answers: [paper::Answer; 64], count: usize) -> usize
+    requires { ⌜ count ≤ 64 ⌝ }
+    ensures { λ r. ⌜ Wrote (now (out .entry)) 0 (linesFrom 0 (take count answers)) (now (out .exit)) r × (r ≤ 42 * count) ⌝ }
+{
+    let mut at = 0;
+    let mut i = 0;
+    while i < count {
+        let answer = answers[i];
+        at = put_line(out, at, i, answer);
+        i += 1;
+    }
+    at
 }
