@@ -3,8 +3,9 @@ ghost use mathlib.Core.Path.{_≡_};
 ghost use mathlib.Core.List.{_∷_, []};
 ghost use lib.ListN.{take};
 ghost use Prim.Native.Nat.{_+_, _-_, _*_, _<_, _≤_, _^_};
-ghost use Rattle.paper.specs.Lines.{digits, decimal, space, lineOf, linesFrom};
+ghost use Rattle.paper.specs.Lines.{digits, decimal, space, lineOf, linesFrom, refusedLine};
 ghost use Rattle.lines.specs.Wrote.{Wrote, Below, three};
+ghost use Rattle.lines.specs.Output.{noRoom, written, Output};
 
 // One byte, where the buffer has room for it.
 fn put(out: &mut [u8], at: usize, b: u8) -> usize
@@ -87,4 +88,67 @@ fn put_lines(out: &mut [u8], answers: [paper::Answer; 64], count: usize) -> usiz
         i += 1;
     }
     at
+}
+
+// 13, and nothing written.
+fn no_room() -> paper::Answer
+    ensures { λ r. ⌜ r ≡ noRoom ⌝ }
+{
+    paper::Answer {
+        refusal: 13,
+        place: 0,
+        steps: 0,
+        outcome: 0,
+        root: 255,
+        waiting: 0,
+    }
+}
+
+// The answer to a text of so many bytes, written.
+fn accepted(bytes: usize) -> paper::Answer
+    requires { ⌜ bytes < 65536 ⌝ }
+    ensures { λ r. ⌜ r ≡ written bytes ⌝ }
+{
+    paper::Answer {
+        refusal: 0,
+        place: 0,
+        steps: bytes as u16,
+        outcome: 0,
+        root: 255,
+        waiting: 0,
+    }
+}
+
+// The lines of the first answers, so many of them, into a lent buffer.
+pub fn write(answers: [paper::Answer; 64], count: usize, out: &mut [u8]) -> paper::Answer
+    requires { ⌜ count ≤ 64 ⌝ }
+    ensures { λ r. ⌜ Output (linesFrom 0 (take count answers)) (now (out .entry)) (now (out .exit)) r ⌝ }
+{
+    let mut nowhere = [0u8; 0];
+    let needed = put_lines(&mut nowhere, answers, count);
+    if out.len() < needed {
+        return no_room();
+    }
+    put_lines(out, answers, count);
+    accepted(needed)
+}
+
+// `refused 1` and a newline, into a lent buffer.
+pub fn write_refused(out: &mut [u8]) -> paper::Answer
+    ensures { λ r. ⌜ Output refusedLine (now (out .entry)) (now (out .exit)) r ⌝ }
+{
+    if out.len() < 10 {
+        return no_room();
+    }
+    out[0] = 114;
+    out[1] = 101;
+    out[2] = 102;
+    out[3] = 117;
+    out[4] = 115;
+    out[5] = 101;
+    out[6] = 100;
+    out[7] = 32;
+    out[8] = 49;
+    out[9] = 10;
+    accepted(10)
 }
