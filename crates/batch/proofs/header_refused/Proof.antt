@@ -6,28 +6,20 @@ use borrow.Author.Tests.{lt-ltb, le-ltb}
 use Rattle.paper.specs.Batch.{headerWrong}
 use Rattle.batch.proofs.header_refused.Statement.{statement}
 use Rattle.batch.proofs.header_refused.Tie as tie
-use Rattle.batch.proofs.header_refused.Reads as reads
-use Rattle.batch.proofs.header_refused.Lts as lts
-use Rattle.batch.proofs.count.Reads as count-reads
 
--- src/lib.rt:55:9
 returns : tie.Need-returns
 unfolding headerWrong
 returns c = rw (lt-ltb (length (c .before .before .args .batch .now)) 4 (c .if1 .taken))
 
--- src/lib.rt:57:9
 count-requires : tie.Need-count-requires
 count-requires c κs = search needs
 
--- src/lib.rt:58:68
 mul-result : tie.Need-mul-result
 mul-result c = search needs
 
--- src/lib.rt:58:64
 add-result : tie.Need-add-result
 add-result c = search needs
 
--- src/lib.rt:50:1
 returns-2 : tie.Need-returns-2
 unfolding headerWrong
 returns-2 c = rw (le-ltb (length (c .before .before .before .args .batch .now)) 4 (c .before .if1 .left), c .count .ensures .0)

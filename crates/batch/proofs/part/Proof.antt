@@ -4,42 +4,31 @@ use native.Mathlib.Nat.{add-sub-cancel-left}
 use Rattle.batch.proofs.Tests.{header-right, span-inside}
 use Rattle.batch.proofs.part.Statement.{statement}
 use Rattle.batch.proofs.part.Tie as tie
-use Rattle.batch.proofs.part.Reads as reads
-use Rattle.batch.proofs.part.Lts as lts
-use Rattle.batch.proofs.length.Reads as length-reads
-use Rattle.batch.proofs.offset.Reads as offset-reads
 
--- src/lib.rt:80:9
 offset-requires : tie.Need-offset-requires
 offset-requires c κs =
     let at = c .before in
     omega (arith, header-right _ (at .pre .0) .entries, span-inside _ _ (at .pre .1) .named)
 
--- src/lib.rt:81:23
 length-requires : tie.Need-length-requires
 length-requires c κs =
     let at = c .before .before in
     omega (arith, header-right _ (at .pre .0) .entries, span-inside _ _ (at .pre .1) .named)
 
--- src/lib.rt:81:15
 add-end : tie.Need-add-end
 add-end c = search needs
 
--- src/lib.rt:82:5
 sub-result : tie.Need-sub-result
 sub-result c = search needs
 
--- src/lib.rt:82:5
 part-result-start : tie.Need-part-result-start
 part-result-start c = search needs
 
--- src/lib.rt:82:5
 part-result-end : tie.Need-part-result-end
 part-result-end c =
     let at = c .before .before .before in
     omega (arith, span-inside _ _ (at .pre .1) .ends, c .before .offset .ensures .0, c .length .ensures .0)
 
--- src/lib.rt:76:1
 returns : tie.Need-returns
 returns c =
     let at = c .before .before .before .before in

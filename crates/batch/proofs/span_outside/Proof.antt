@@ -5,46 +5,33 @@ use Rattle.paper.specs.Batch.{countOf, spanOutside}
 use Rattle.batch.proofs.Tests.{header-right}
 use Rattle.batch.proofs.span_outside.Statement.{statement}
 use Rattle.batch.proofs.span_outside.Tie as tie
-use Rattle.batch.proofs.span_outside.Reads as reads
-use Rattle.batch.proofs.span_outside.Lts as lts
-use Rattle.batch.proofs.count.Reads as count-reads
-use Rattle.batch.proofs.length.Reads as length-reads
-use Rattle.batch.proofs.offset.Reads as offset-reads
 
--- src/lib.rt:66:9
 count-requires : tie.Need-count-requires
 count-requires c κs = header-right _ (c .before .pre) .whole
 
--- src/lib.rt:68:9
 returns : tie.Need-returns
 unfolding spanOutside
 returns c =
     let at = c .before .before .before in
     rw (le-leb (countOf (at .args .batch .now)) (at .args .number) (omega (arith, c .before .count .ensures .0)))
 
--- src/lib.rt:70:9
 offset-requires : tie.Need-offset-requires
 offset-requires c κs =
     omega (arith, header-right _ (c .before .before .before .pre) .entries, c .before .count .ensures .0)
 
--- src/lib.rt:71:9
 length-requires : tie.Need-length-requires
 length-requires c κs =
     omega (arith, header-right _ (c .before .before .before .before .pre) .entries, c .before .before .count .ensures .0)
 
--- src/lib.rt:72:18
 mul-result : tie.Need-mul-result
 mul-result c = search needs
 
--- src/lib.rt:72:14
 add-result : tie.Need-add-result
 add-result c = search needs
 
--- src/lib.rt:72:48
 add-result-2 : tie.Need-add-result-2
 add-result-2 c = search needs
 
--- src/lib.rt:62:1
 returns-2 : tie.Need-returns-2
 unfolding spanOutside
 returns-2 c =

@@ -10,9 +10,6 @@ use Rattle.lines.proofs.Written.{then}
 use Rattle.lines.proofs.Ordered.{lines-next, unwritten}
 use Rattle.lines.proofs.put_lines.Statement.{statement}
 use Rattle.lines.proofs.put_lines.Tie as tie
-use Rattle.lines.proofs.put_lines.Reads as reads
-use Rattle.lines.proofs.put_lines.Lts as lts
-use Rattle.lines.proofs.put_line.Reads as put-line-reads
 
 abbrev Inv-loop : tie.InvT-loop
 Inv-loop out₀ count answers at₀ i₀ out at i = (i ≤ count) × (at ≤ 42 * i) × Wrote out₀ 0 (linesFrom 0 (take i answers)) out at
@@ -20,43 +17,34 @@ Inv-loop out₀ count answers at₀ i₀ out at i = (i ≤ count) × (at ≤ 42 
 abbrev μ-loop : tie.MeasureT-loop
 μ-loop out₀ count answers at₀ i₀ out at i = count - i
 
--- src/lib.rt:84:5
 loop-holds : tie.Need-loop-holds Inv-loop μ-loop
 unfolding linesFrom
 loop-holds c = (omega arith, omega arith, record { left = refl; place = refl })
 
--- src/lib.rt:85:22
 mul-answer : tie.Need-mul-answer Inv-loop μ-loop
 mul-answer c = omega arith
 
--- src/lib.rt:85:22
 array-copy-out-answer : tie.Need-array-copy-out-answer Inv-loop μ-loop
 array-copy-out-answer c = omega arith
 
--- src/lib.rt:86:9
 put-line-requires : tie.Need-put-line-requires Inv-loop μ-loop
 put-line-requires c κs = (omega arith, omega arith)
 
--- src/lib.rt:87:9
 add-i : tie.Need-add-i Inv-loop μ-loop
 add-i c = omega arith
 
--- src/lib.rt:84:5
 loop-less : tie.Need-loop-less Inv-loop μ-loop
 loop-less c = omega arith
 
--- src/lib.rt:84:5
 loop-again : tie.Need-loop-again Inv-loop μ-loop
 loop-again c =
     let at = c .before .before .before .before .before .before in
     let inside : at .loop .i < length (at .before .before .args .t2) = omega (arith, at .before .before .good .1 .0 .1 .0 .1) in
     (omega arith, omega arith, rw (lines-next (at .loop .i) (at .before .before .args .t2) unwritten inside) at (then (at .loop .inv .2) (c .before .before .put-line .ensures .0)))
 
--- src/lib.rt:78:1
 same-length : tie.Need-same-length Inv-loop μ-loop
 same-length c = ap length (c .before .loop .inv .2 .left) ∙ simp length-sets
 
--- src/lib.rt:78:1
 returns : tie.Need-returns Inv-loop μ-loop
 returns c =
     let all : c .before .loop .i ≡ c .before .before .before .args .count = omega arith in

@@ -3,24 +3,16 @@ use native.Mathlib.Omega.{arith}
 use Rattle.lines.proofs.Written.{then}
 use Rattle.lines.proofs.put_next.Statement.{statement}
 use Rattle.lines.proofs.put_next.Tie as tie
-use Rattle.lines.proofs.put_next.Reads as reads
-use Rattle.lines.proofs.put_next.Lts as lts
-use Rattle.lines.proofs.put.Reads as put-reads
-use Rattle.lines.proofs.put_decimal.Reads as put-decimal-reads
 
--- src/lib.rt:45:9
 put-requires : tie.Need-put-requires
 put-requires c κs = search needs
 
--- src/lib.rt:46:5
 put-decimal-requires : tie.Need-put-decimal-requires
 put-decimal-requires c κs = search needs
 
--- src/lib.rt:41:1
 same-length : tie.Need-same-length
 same-length c = search needs
 
--- src/lib.rt:41:1
 returns : tie.Need-returns
 returns c =
     (then (c .before .before .before .before .before .before .put .ensures) (c .before .before .put-decimal .ensures .0), omega arith)

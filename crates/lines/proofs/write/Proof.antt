@@ -6,25 +6,16 @@ use Rattle.paper.specs.Lines.{linesFrom}
 use Rattle.lines.proofs.Room.{no-room, with-room}
 use Rattle.lines.proofs.write.Statement.{statement}
 use Rattle.lines.proofs.write.Tie as tie
-use Rattle.lines.proofs.write.Reads as reads
-use Rattle.lines.proofs.write.Lts as lts
-use Rattle.lines.proofs.accepted.Reads as accepted-reads
-use Rattle.lines.proofs.no_room.Reads as no-room-reads
-use Rattle.lines.proofs.put_lines.Reads as put-lines-reads
 
--- src/lib.rt:128:28
 slice-aggregate-put-lines : tie.Need-slice-aggregate-put-lines
 slice-aggregate-put-lines c = search needs
 
--- src/lib.rt:128:9
 put-lines-requires : tie.Need-put-lines-requires
 put-lines-requires c κs = search needs
 
--- src/lib.rt:130:9
 no-room-requires : tie.Need-no-room-requires
 no-room-requires c κs = search needs
 
--- src/lib.rt:130:9
 returns : tie.Need-returns
 returns c =
     let call = c .before .before .before in
@@ -34,19 +25,15 @@ returns c =
     (at .args .out .now)
     (omega (arith, call .put-lines .ensures .0 .place)))
 
--- src/lib.rt:132:5
 put-lines-requires-2 : tie.Need-put-lines-requires-2
 put-lines-requires-2 c κs = search needs
 
--- src/lib.rt:133:5
 accepted-requires : tie.Need-accepted-requires
 accepted-requires c κs = search needs
 
--- src/lib.rt:123:1
 same-length : tie.Need-same-length
 same-length c = search needs
 
--- src/lib.rt:123:1
 returns-2 : tie.Need-returns-2
 returns-2 c =
     let call = c .before .before .before .before .before .before .before in

@@ -5,69 +5,50 @@ use Rattle.paper.specs.Lines.{refusedLine}
 use Rattle.lines.proofs.Room.{no-room, with-room, next-fits}
 use Rattle.lines.proofs.write_refused.Statement.{statement}
 use Rattle.lines.proofs.write_refused.Tie as tie
-use Rattle.lines.proofs.write_refused.Reads as reads
-use Rattle.lines.proofs.write_refused.Lts as lts
-use Rattle.lines.proofs.accepted.Reads as accepted-reads
-use Rattle.lines.proofs.no_room.Reads as no-room-reads
 
--- src/lib.rt:141:9
 no-room-requires : tie.Need-no-room-requires
 no-room-requires c κs = search needs
 
--- src/lib.rt:141:9
 returns : tie.Need-returns
 returns c =
     rw (c .no-room .ensures) (no-room refusedLine (c .before .before .before .args .out .now) (c .before .if1 .taken))
 
--- src/lib.rt:143:5
 slice-write-out : tie.Need-slice-write-out
 slice-write-out c = search needs
 
--- src/lib.rt:144:5
 slice-write-out-2 : tie.Need-slice-write-out-2
 slice-write-out-2 c = next-fits refusedLine (c .before .before .args .out .now) 1 (c .if1 .left) (omega arith)
 
--- src/lib.rt:145:5
 slice-write-out-3 : tie.Need-slice-write-out-3
 slice-write-out-3 c = next-fits refusedLine (c .before .before .args .out .now) 2 (c .if1 .left) (omega arith)
 
--- src/lib.rt:146:5
 slice-write-out-4 : tie.Need-slice-write-out-4
 slice-write-out-4 c = next-fits refusedLine (c .before .before .args .out .now) 3 (c .if1 .left) (omega arith)
 
--- src/lib.rt:147:5
 slice-write-out-5 : tie.Need-slice-write-out-5
 slice-write-out-5 c = next-fits refusedLine (c .before .before .args .out .now) 4 (c .if1 .left) (omega arith)
 
--- src/lib.rt:148:5
 slice-write-out-6 : tie.Need-slice-write-out-6
 slice-write-out-6 c = next-fits refusedLine (c .before .before .args .out .now) 5 (c .if1 .left) (omega arith)
 
--- src/lib.rt:149:5
 slice-write-out-7 : tie.Need-slice-write-out-7
 slice-write-out-7 c = next-fits refusedLine (c .before .before .args .out .now) 6 (c .if1 .left) (omega arith)
 
--- src/lib.rt:150:5
 slice-write-out-8 : tie.Need-slice-write-out-8
 slice-write-out-8 c = next-fits refusedLine (c .before .before .args .out .now) 7 (c .if1 .left) (omega arith)
 
--- src/lib.rt:151:5
 slice-write-out-9 : tie.Need-slice-write-out-9
 slice-write-out-9 c = next-fits refusedLine (c .before .before .args .out .now) 8 (c .if1 .left) (omega arith)
 
--- src/lib.rt:152:5
 slice-write-out-10 : tie.Need-slice-write-out-10
 slice-write-out-10 c = next-fits refusedLine (c .before .before .args .out .now) 9 (c .if1 .left) (omega arith)
 
--- src/lib.rt:153:5
 accepted-requires : tie.Need-accepted-requires
 accepted-requires c κs = search needs
 
--- src/lib.rt:137:1
 same-length : tie.Need-same-length
 same-length c = search needs
 
--- src/lib.rt:137:1
 returns-2 : tie.Need-returns-2
 returns-2 c =
     rw (c .accepted .ensures)
