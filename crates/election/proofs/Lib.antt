@@ -1,0 +1,17 @@
+pub mod Places
+pub mod Updates
+pub mod Directions
+pub mod Unheard
+pub mod Messages
+pub mod Possible
+pub mod FreshIsLocal
+pub mod AfterBecomeRoot
+pub mod OneUnheard
+pub mod ChildMark
+pub mod MessageRead
+pub mod AfterAddChild
+pub mod AfterAcknowledge
+pub mod AfterResolve
+pub mod AfterChildrenKnown
+pub mod LocalRuns
+pub mod PublishedRuns

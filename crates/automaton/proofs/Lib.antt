@@ -1,0 +1,4 @@
+pub mod More
+pub mod Named
+pub mod Taken
+pub mod Moves

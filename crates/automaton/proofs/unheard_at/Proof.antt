@@ -1,0 +1,82 @@
+use Rattle.automaton.proofs.More.{sum-more, sum-none}
+use Rattle.automaton.specs.Tried.{shown, lacking}
+use Rattle.paper.specs.Table.{tableOf}
+use Rattle.paper.specs.Upload.{linksOf}
+use Rattle.counting.specs.Count.{sum}
+use mathlib.Core.Path.{_≡_, sym, ap, _∙_}
+use Prim.Native.Nat.{ℕ, _+_, _*_, _-_, _≤_}
+use borrow.Author.Needs.{needs}
+use native.Mathlib.Omega.{arith}
+use Rattle.automaton.proofs.unheard_at.Statement.{statement}
+use Rattle.automaton.proofs.unheard_at.Tie as tie
+use Rattle.automaton.proofs.unheard_at.Reads as reads
+use Rattle.automaton.proofs.unheard_at.Lts as lts
+use Rattle.automaton.proofs.lacking_on.Reads as lacking-on-reads
+use Rattle.upload.proofs.links.Reads as links-reads
+
+abbrev Inv-loop : tie.InvT-loop
+Inv-loop upload image x m count₀ i₀ count i =
+    (i ≤ m) × (m ≡ linksOf upload) × (count ≡ sum i (lacking (tableOf upload) (shown upload image) x)) × (count ≤ 2 * i)
+
+abbrev μ-loop : tie.MeasureT-loop
+μ-loop upload image x m count₀ i₀ count i = m - i
+
+-- src/lib.rt:41:9
+links-requires : tie.Need-links-requires Inv-loop μ-loop
+links-requires c κs = search needs
+
+-- src/lib.rt:44:5
+loop-holds : tie.Need-loop-holds Inv-loop μ-loop
+loop-holds c = (search needs, c .links .ensures .0, sym (sum-none _), search needs)
+
+-- src/lib.rt:45:18
+lacking-on-requires : tie.Need-lacking-on-requires Inv-loop μ-loop
+lacking-on-requires c κs = search needs
+
+-- src/lib.rt:45:9
+add-count : tie.Need-add-count Inv-loop μ-loop
+add-count c = search needs
+
+-- src/lib.rt:46:9
+add-i : tie.Need-add-i Inv-loop μ-loop
+add-i c = search needs
+
+-- src/lib.rt:44:5
+loop-less : tie.Need-loop-less Inv-loop μ-loop
+loop-less c = search needs
+
+-- src/lib.rt:44:5
+loop-again : tie.Need-loop-again Inv-loop μ-loop
+loop-again c =
+    let now = c .before .before .loop in
+    let at = c .before .before .before .before .before .before in (
+      search needs,
+      now .inv .1,
+      omega (arith, c .lacking-on .ensures .0, now .inv .2, sum-more (now .i) (lacking (tableOf (at .args .upload .now)) (shown (at .args .upload .now) (at .args .image .now)) (at .args .x))),
+      search needs,
+    )
+
+-- src/lib.rt:37:1
+returns : tie.Need-returns Inv-loop μ-loop
+returns c =
+    let now = c .before .loop in
+    let at = c .before .before .before .before .before in
+    let all : now .i ≡ linksOf (at .args .upload .now) = omega arith in (
+      now .inv .2 ∙ ap (λ (k : ℕ). sum k (lacking (tableOf (at .args .upload .now)) (shown (at .args .upload .now) (at .args .image .now)) (at .args .x))) all,
+      omega (arith, at .pre .table .linksFit),
+    )
+
+pub unheard-at-spec : {M : Type 1} → statement M
+unheard-at-spec =
+    tie.close
+    (tie.spec
+    Inv-loop
+    μ-loop
+    links-requires
+    loop-holds
+    lacking-on-requires
+    add-count
+    add-i
+    loop-less
+    loop-again
+    returns)

@@ -1,0 +1,417 @@
+// The read side of the automaton on a lent image: which steps are possible, what an action names, and the report.
+ghost use mathlib.Core.Path.{_≡_};
+ghost use Prim.Native.Nat.{_+_, _*_, _<_, _≤_};
+ghost use Rattle.paper.specs.Upload.{nodesOf, linksOf};
+ghost use Rattle.paper.specs.Table.{tableOf};
+ghost use Rattle.paper.specs.Steps.{unheard, possible, childrenKnown, addChild, acknowledge, resolve, becomeRoot};
+ghost use mathlib.Core.Bool.{cond, true};
+ghost use lib.Dec.{ltb};
+ghost use Rattle.paper.specs.Actions.{joins, linkBetween, nodeStep, linkStep, reading, readNode, readLink, names, directionFrom};
+ghost use Rattle.counting.specs.Count.{some};
+ghost use Rattle.paper.specs.Report.{movesAt, movesOn, moving, roots, rootOf, waitingCount, outcomeAtRest, outcomeOf};
+ghost use Rattle.table.specs.Accepted.{Accepted};
+ghost use Rattle.marks.specs.Lent.{Lent};
+ghost use Rattle.automaton.specs.Tried.{shown, lacks, lacking, linkMoves, TriedAs, Reported};
+
+// How many directions into a node lack child.
+pub struct Unheard {
+    pub count: usize,
+}
+
+// The direction of link i goes to x and lacks child.
+fn lacks_child(upload: &[u8], image: &[u8], x: usize, i: usize, back: bool) -> bool
+    requires { ⌜ Lent (now upload) (now image) × (i < linksOf (now upload)) ⌝ }
+    ensures { λ r. ⌜ r ≡ lacks (tableOf (now (upload .entry))) (shown (now (upload .entry)) (now (image .entry))) x i back ⌝ }
+{
+    (upload::end(upload, i, !back) == x) & !marks::child(upload, image, i, back)
+}
+
+// How many of the two directions of link i go to x and lack child.
+fn lacking_on(upload: &[u8], image: &[u8], x: usize, i: usize) -> usize
+    requires { ⌜ Lent (now upload) (now image) × (i < linksOf (now upload)) ⌝ }
+    ensures { λ r. ⌜ (r ≡ lacking (tableOf (now (upload .entry))) (shown (now (upload .entry)) (now (image .entry))) x i) × (r ≤ 2) ⌝ }
+{
+    lacks_child(upload, image, x, i, false) as usize
+        + lacks_child(upload, image, x, i, true) as usize
+}
+
+// How many directions into x lack child.
+pub fn unheard_at(upload: &[u8], image: &[u8], x: usize) -> Unheard
+    requires { ⌜ Lent (now upload) (now image) ⌝ }
+    ensures { λ r. ⌜ (r .count ≡ unheard (tableOf (now (upload .entry))) (shown (now (upload .entry)) (now (image .entry))) x) × (r .count ≤ 252) ⌝ }
+{
+    let m = upload::links(upload);
+    let mut count: usize = 0;
+    let mut i: usize = 0;
+    while i < m {
+        count += lacking_on(upload, image, x, i);
+        i += 1;
+    }
+    Unheard { count: count }
+}
+
+// A node of link i: its first, or its second.
+fn end_node(upload: &[u8], i: usize, second: bool) -> usize
+    requires { ⌜ Accepted (now upload) × (i < linksOf (now upload)) ⌝ }
+    ensures { λ r. ⌜ (r ≡ tableOf (now (upload .entry)) .end i second) × (r < nodesOf (now (upload .entry))) ⌝ }
+{
+    upload::end(upload, i, second)
+}
+
+// Kind 1 is possible at node x.
+pub fn may_know_children(upload: &[u8], image: &[u8], x: usize) -> bool
+    requires { ⌜ Lent (now upload) (now image) × (x < nodesOf (now upload)) ⌝ }
+    ensures { λ r. ⌜ r ≡ possible (tableOf (now (upload .entry))) (shown (now (upload .entry)) (now (image .entry))) (childrenKnown x) ⌝ }
+{
+    marks::waiting(upload, image, x) & (unheard_at(upload, image, x).count <= 1)
+}
+
+// Kind 2 is possible on a direction of link i.
+pub fn may_add_child(upload: &[u8], image: &[u8], i: usize, back: bool) -> bool
+    requires { ⌜ Lent (now upload) (now image) × (i < linksOf (now upload)) ⌝ }
+    ensures { λ r. ⌜ r ≡ possible (tableOf (now (upload .entry))) (shown (now (upload .entry)) (now (image .entry))) (addChild i back) ⌝ }
+{
+    marks::waiting(upload, image, end_node(upload, i, !back))
+        & marks::carrying(upload, image, i, back)
+}
+
+// Kind 3 is possible on a direction of link i.
+pub fn may_acknowledge(upload: &[u8], image: &[u8], i: usize, back: bool) -> bool
+    requires { ⌜ Lent (now upload) (now image) × (i < linksOf (now upload)) ⌝ }
+    ensures { λ r. ⌜ r ≡ possible (tableOf (now (upload .entry))) (shown (now (upload .entry)) (now (image .entry))) (acknowledge i back) ⌝ }
+{
+    !marks::waiting(upload, image, end_node(upload, i, !back))
+        & marks::carrying(upload, image, i, back)
+}
+
+// Kind 4 is possible on a direction of link i.
+pub fn may_resolve(upload: &[u8], image: &[u8], i: usize, back: bool) -> bool
+    requires { ⌜ Lent (now upload) (now image) × (i < linksOf (now upload)) ⌝ }
+    ensures { λ r. ⌜ r ≡ possible (tableOf (now (upload .entry))) (shown (now (upload .entry)) (now (image .entry))) (resolve i back) ⌝ }
+{
+    marks::contending(upload, image, end_node(upload, i, back))
+        & marks::contending(upload, image, end_node(upload, i, !back))
+}
+
+// Kind 5 is possible at node x.
+pub fn may_become_root(upload: &[u8], image: &[u8], x: usize) -> bool
+    requires { ⌜ Lent (now upload) (now image) × (x < nodesOf (now upload)) ⌝ }
+    ensures { λ r. ⌜ r ≡ possible (tableOf (now (upload .entry))) (shown (now (upload .entry)) (now (image .entry))) (becomeRoot x) ⌝ }
+{
+    !marks::root(upload, image, x) & (unheard_at(upload, image, x).count == 0)
+}
+
+// What an action comes to: the number by which it is refused, 0 if it can be taken, and the direction that it names.
+pub struct Tried {
+    pub number: u8,
+    pub link: usize,
+    pub back: bool,
+}
+
+// Link i joins x and y, either way round.
+fn joins_at(upload: &[u8], x: usize, y: usize, i: usize) -> bool
+    requires { ⌜ Accepted (now upload) × (i < linksOf (now upload)) ⌝ }
+    ensures { λ r. ⌜ r ≡ joins (tableOf (now (upload .entry))) x y i ⌝ }
+{
+    let a = end_node(upload, i, false);
+    let b = end_node(upload, i, true);
+    ((a == x) & (b == y)) | ((a == y) & (b == x))
+}
+
+// The link that joins x and y, m where none does.
+pub fn link_between(upload: &[u8], x: usize, y: usize) -> usize
+    requires { ⌜ Accepted (now upload) ⌝ }
+    ensures { λ r. ⌜ (r ≡ linkBetween (tableOf (now (upload .entry))) x y) × (r ≤ linksOf (now (upload .entry))) ⌝ }
+{
+    let m = upload::links(upload);
+    let mut i: usize = 0;
+    while i < m {
+        if joins_at(upload, x, y, i) {
+            return i;
+        }
+        i += 1;
+    }
+    m
+}
+
+// The step of kind 1 or 5 at node x is possible.
+pub fn node_possible(upload: &[u8], image: &[u8], kind: usize, x: usize) -> bool
+    requires { ⌜ Lent (now upload) (now image) × (x < nodesOf (now upload)) ⌝ }
+    ensures { λ r. ⌜ r ≡ possible (tableOf (now (upload .entry))) (shown (now (upload .entry)) (now (image .entry))) (nodeStep kind x) ⌝ }
+{
+    if kind == 1 {
+        may_know_children(upload, image, x)
+    } else {
+        may_become_root(upload, image, x)
+    }
+}
+
+// The step of kinds 2 to 4 on a direction of link i is possible.
+pub fn link_possible(upload: &[u8], image: &[u8], kind: usize, i: usize, back: bool) -> bool
+    requires { ⌜ Lent (now upload) (now image) × (i < linksOf (now upload)) ⌝ }
+    ensures { λ r. ⌜ r ≡ possible (tableOf (now (upload .entry))) (shown (now (upload .entry)) (now (image .entry))) (linkStep kind i back) ⌝ }
+{
+    if kind == 2 {
+        may_add_child(upload, image, i, back)
+    } else {
+        if kind == 3 {
+            may_acknowledge(upload, image, i, back)
+        } else {
+            may_resolve(upload, image, i, back)
+        }
+    }
+}
+
+// The number of a step that is possible or not.
+fn refused_unless(taken: bool) -> u8
+    ensures { λ r. ⌜ r ≡ cond taken 0 11 ⌝ }
+{
+    if taken { 0 } else { 11 }
+}
+
+// An action of kind 1 or 5.
+fn try_node(upload: &[u8], image: &[u8], kind: usize, x: usize, y: usize) -> Tried
+    requires { ⌜ Lent (now upload) (now image) ⌝ }
+    ensures { λ r. ⌜ TriedAs (tableOf (now (upload .entry))) (shown (now (upload .entry)) (now (image .entry))) (readNode (tableOf (now (upload .entry))) kind x y) r ⌝ }
+{
+    if (x < upload::nodes(upload)) & (y == 255) {
+        Tried {
+            number: refused_unless(node_possible(upload, image, kind, x)),
+            link: 0,
+            back: false,
+        }
+    } else {
+        Tried {
+            number: 9,
+            link: 0,
+            back: false,
+        }
+    }
+}
+
+// An action of kinds 2 to 4 that names link i, from x.
+fn try_direction(upload: &[u8], image: &[u8], kind: usize, i: usize, x: usize) -> Tried
+    requires { ⌜ Lent (now upload) (now image) × (i < linksOf (now upload)) ⌝ }
+    ensures { λ r. ⌜ TriedAs (tableOf (now (upload .entry))) (shown (now (upload .entry)) (now (image .entry))) (names (linkStep kind i (directionFrom (tableOf (now (upload .entry))) i x))) r ⌝ }
+{
+    let back = !(end_node(upload, i, false) == x);
+    Tried {
+        number: refused_unless(link_possible(upload, image, kind, i, back)),
+        link: i,
+        back: back,
+    }
+}
+
+// An action of kinds 2 to 4.
+fn try_link(upload: &[u8], image: &[u8], kind: usize, x: usize, y: usize) -> Tried
+    requires { ⌜ Lent (now upload) (now image) ⌝ }
+    ensures { λ r. ⌜ TriedAs (tableOf (now (upload .entry))) (shown (now (upload .entry)) (now (image .entry))) (readLink (tableOf (now (upload .entry))) kind x y) r ⌝ }
+{
+    let n = upload::nodes(upload);
+    if (x < n) & (y < n) {
+        let i = link_between(upload, x, y);
+        if i < upload::links(upload) {
+            try_direction(upload, image, kind, i, x)
+        } else {
+            Tried {
+                number: 10,
+                link: 0,
+                back: false,
+            }
+        }
+    } else {
+        Tried {
+            number: 9,
+            link: 0,
+            back: false,
+        }
+    }
+}
+
+// What an action comes to.
+pub fn try_action(upload: &[u8], image: &[u8], kind: u8, x: u8, y: u8) -> Tried
+    requires { ⌜ Lent (now upload) (now image) ⌝ }
+    ensures { λ r. ⌜ TriedAs (tableOf (now (upload .entry))) (shown (now (upload .entry)) (now (image .entry))) (reading (tableOf (now (upload .entry))) kind x y) r ⌝ }
+{
+    if (kind == 1) | (kind == 5) {
+        try_node(upload, image, kind as usize, x as usize, y as usize)
+    } else {
+        if (2 <= kind) & (kind <= 4) {
+            try_link(upload, image, kind as usize, x as usize, y as usize)
+        } else {
+            Tried {
+                number: 9,
+                link: 0,
+                back: false,
+            }
+        }
+    }
+}
+
+// What a state comes to: the outcome, the lowest root node or 255, and how many nodes wait.
+pub struct Report {
+    pub outcome: u8,
+    pub root: u8,
+    pub waiting: u8,
+}
+
+// Some step at node x is possible.
+pub fn node_moves(upload: &[u8], image: &[u8], x: usize) -> bool
+    requires { ⌜ Lent (now upload) (now image) × (x < nodesOf (now upload)) ⌝ }
+    ensures { λ r. ⌜ r ≡ movesAt (tableOf (now (upload .entry))) (shown (now (upload .entry)) (now (image .entry))) x ⌝ }
+{
+    let count = unheard_at(upload, image, x).count;
+    (marks::waiting(upload, image, x) & (count <= 1))
+        | (!marks::root(upload, image, x) & (count == 0))
+}
+
+// Some step on a direction of link i is possible: the direction carries a message, or both its nodes contend.
+pub fn direction_moves(upload: &[u8], image: &[u8], i: usize, back: bool) -> bool
+    requires { ⌜ Lent (now upload) (now image) × (i < linksOf (now upload)) ⌝ }
+    ensures { λ r. ⌜ r ≡ movesOn (tableOf (now (upload .entry))) (shown (now (upload .entry)) (now (image .entry))) i back ⌝ }
+{
+    marks::carrying(upload, image, i, back) | may_resolve(upload, image, i, back)
+}
+
+// Some step on link i is possible.
+fn link_moves(upload: &[u8], image: &[u8], i: usize) -> bool
+    requires { ⌜ Lent (now upload) (now image) × (i < linksOf (now upload)) ⌝ }
+    ensures { λ r. ⌜ r ≡ linkMoves (tableOf (now (upload .entry))) (shown (now (upload .entry)) (now (image .entry))) i ⌝ }
+{
+    direction_moves(upload, image, i, false) | direction_moves(upload, image, i, true)
+}
+
+// Some step of kind 1 or 5 is possible.
+fn some_node_moves(upload: &[u8], image: &[u8]) -> bool
+    requires { ⌜ Lent (now upload) (now image) ⌝ }
+    ensures { λ r. ⌜ r ≡ some (nodesOf (now (upload .entry))) (movesAt (tableOf (now (upload .entry))) (shown (now (upload .entry)) (now (image .entry)))) ⌝ }
+{
+    let n = upload::nodes(upload);
+    let mut x: usize = 0;
+    while x < n {
+        if node_moves(upload, image, x) {
+            return true;
+        }
+        x += 1;
+    }
+    false
+}
+
+// Some step of kinds 2 to 4 is possible.
+fn some_link_moves(upload: &[u8], image: &[u8]) -> bool
+    requires { ⌜ Lent (now upload) (now image) ⌝ }
+    ensures { λ r. ⌜ r ≡ some (linksOf (now (upload .entry))) (linkMoves (tableOf (now (upload .entry))) (shown (now (upload .entry)) (now (image .entry)))) ⌝ }
+{
+    let m = upload::links(upload);
+    let mut i: usize = 0;
+    while i < m {
+        if link_moves(upload, image, i) {
+            return true;
+        }
+        i += 1;
+    }
+    false
+}
+
+// Some step is possible.
+pub fn is_moving(upload: &[u8], image: &[u8]) -> bool
+    requires { ⌜ Lent (now upload) (now image) ⌝ }
+    ensures { λ r. ⌜ r ≡ moving (tableOf (now (upload .entry))) (shown (now (upload .entry)) (now (image .entry))) ⌝ }
+{
+    if some_node_moves(upload, image) {
+        true
+    } else {
+        some_link_moves(upload, image)
+    }
+}
+
+// How many nodes are root.
+fn root_count(upload: &[u8], image: &[u8]) -> usize
+    requires { ⌜ Lent (now upload) (now image) ⌝ }
+    ensures { λ r. ⌜ r ≡ roots (tableOf (now (upload .entry))) (shown (now (upload .entry)) (now (image .entry))) ⌝ }
+{
+    let n = upload::nodes(upload);
+    let mut count: usize = 0;
+    let mut x: usize = 0;
+    while x < n {
+        count += marks::root(upload, image, x) as usize;
+        x += 1;
+    }
+    count
+}
+
+// How many nodes wait.
+pub fn waiting_count(upload: &[u8], image: &[u8]) -> usize
+    requires { ⌜ Lent (now upload) (now image) ⌝ }
+    ensures { λ r. ⌜ (r ≡ waitingCount (tableOf (now (upload .entry))) (shown (now (upload .entry)) (now (image .entry)))) × (r ≤ 63) ⌝ }
+{
+    let n = upload::nodes(upload);
+    let mut count: usize = 0;
+    let mut x: usize = 0;
+    while x < n {
+        count += marks::waiting(upload, image, x) as usize;
+        x += 1;
+    }
+    count
+}
+
+// The lowest root node, 255 if none.
+fn lowest_root(upload: &[u8], image: &[u8]) -> usize
+    requires { ⌜ Lent (now upload) (now image) ⌝ }
+    ensures { λ r. ⌜ (r ≡ rootOf (tableOf (now (upload .entry))) (shown (now (upload .entry)) (now (image .entry)))) × (r ≤ 255) ⌝ }
+{
+    let n = upload::nodes(upload);
+    let mut x: usize = 0;
+    while x < n {
+        if marks::root(upload, image, x) {
+            return x;
+        }
+        x += 1;
+    }
+    255
+}
+
+// The outcome where no step is possible.
+fn outcome_at_rest(n: usize, m: usize, root_nodes: usize, waiting: usize) -> u8
+    ensures { λ r. ⌜ r ≡ outcomeAtRest n m «root_nodes» waiting ⌝ }
+{
+    if root_nodes == 1 {
+        2
+    } else {
+        if (root_nodes == 0) & ((0 < waiting) & (n <= m)) {
+            3
+        } else {
+            4
+        }
+    }
+}
+
+// The outcome.
+fn outcome(upload: &[u8], image: &[u8], waiting: usize) -> u8
+    requires { ⌜ Lent (now upload) (now image) × (waiting ≡ waitingCount (tableOf (now upload)) (shown (now upload) (now image))) ⌝ }
+    ensures { λ r. ⌜ r ≡ outcomeOf (tableOf (now (upload .entry))) (shown (now (upload .entry)) (now (image .entry))) ⌝ }
+{
+    if is_moving(upload, image) {
+        1
+    } else {
+        outcome_at_rest(
+            upload::nodes(upload),
+            upload::links(upload),
+            root_count(upload, image),
+            waiting,
+        )
+    }
+}
+
+// The report of the state that a lent image shows.
+pub fn report_of(upload: &[u8], image: &[u8]) -> Report
+    requires { ⌜ Lent (now upload) (now image) ⌝ }
+    ensures { λ r. ⌜ Reported (tableOf (now (upload .entry))) (shown (now (upload .entry)) (now (image .entry))) r ⌝ }
+{
+    let waiting = waiting_count(upload, image);
+    Report {
+        outcome: outcome(upload, image, waiting),
+        root: lowest_root(upload, image) as u8,
+        waiting: waiting as u8,
+    }
+}

@@ -1,0 +1,5 @@
+pub mod Stored
+pub mod Sent
+pub mod Filled
+pub mod Effects
+pub mod Kept
