@@ -1,12 +1,13 @@
 -- The lines of a list of answers are the lines of its answers one after another.
-use Prim.Native.Nat.{ℕ, zero, suc, _+_, _≤_, _<_}
+use Prim.Native.Nat.{ℕ, zero, suc, _+_, _≤_, _<_, min}
 use mathlib.Core.Path.{_≡_, refl, ap, sym, _∙_}
 use mathlib.Core.List.{List, [], _∷_, _++_, append-assoc, append-nil}
 use native.Mathlib.Omega.{arith}
 use native.Mathlib.Nat.{add-zero, zero-add, add-suc, suc-add}
+use native.Mathlib.Decide.{decLe}
 use native.Mathlib.Numerals.{add-one}
 use lib.ListN.{length, take, getD, length-append}
-use lib.Seq.{take-suc, length-take-le}
+use lib.Seq.{take-suc, take-all, length-take-le}
 use Rattle.counting.specs.Count.{listOf, joined}
 use Rattle.paper.specs.declared.Answer.{Answer}
 use Rattle.paper.specs.Lines.{decimal, space, newline, lineOf, linesFrom}
@@ -61,3 +62,11 @@ lines-next i xs d h =
     (rw (add-one i, take-suc xs i d h)
     (lines-append 0 (take i xs) (getD xs i d ∷ [])
     ∙ rw (length-take-le i xs (omega arith), zero-add i, append-nil (lineOf i (getD xs i d)))))
+
+-- so many answers, or all of them where there are fewer
+pub at-most : {k : ℕ} (n most : ℕ) (xs : List Answer) → k ≡ min n most → length xs ≤ most → take k xs ≡ take n xs
+at-most {k} n most xs e h = go (decLe n most)
+  where
+    go : Dec (n ≤ most) → take k xs ≡ take n xs
+    go (yes p) = let same : k ≡ n = omega arith in rw same
+    go (no p) = take-all k xs (omega arith) ∙ sym (take-all n xs (omega arith))

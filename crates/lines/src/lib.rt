@@ -2,7 +2,7 @@
 ghost use mathlib.Core.Path.{_≡_};
 ghost use mathlib.Core.List.{_∷_, []};
 ghost use lib.ListN.{take};
-ghost use Prim.Native.Nat.{_+_, _-_, _*_, _<_, _≤_, _^_};
+ghost use Prim.Native.Nat.{_+_, _-_, _*_, _<_, _≤_, _^_, min};
 ghost use Rattle.paper.specs.Lines.{digits, decimal, space, lineOf, linesFrom, refusedLine};
 ghost use Rattle.lines.specs.Wrote.{Wrote, Below, three};
 ghost use Rattle.lines.specs.Output.{noRoom, written, Output};
@@ -59,7 +59,7 @@ fn put_three(out: &mut [u8], at: usize, x: usize, y: usize, z: usize) -> usize
 }
 
 // A line: the entry's number and the six numbers of its answer.
-pub fn put_line(out: &mut [u8], at: usize, number: usize, answer: paper::Answer) -> usize
+fn put_line(out: &mut [u8], at: usize, number: usize, answer: paper::Answer) -> usize
     requires { ⌜ (at < 2 ^ 29) × (number < 100000) ⌝ }
     ensures { λ r. ⌜ Wrote (now (out .entry)) at (lineOf number answer) (now (out .exit)) r × (r ≤ at + 42) ⌝ }
 {
@@ -119,17 +119,27 @@ fn accepted(bytes: usize) -> paper::Answer
     }
 }
 
-// The lines of the first answers, so many of them, into a lent buffer.
+// So many answers, or all 64.
+fn shown(count: usize) -> usize
+    ensures { λ r. ⌜ (r ≡ min count 64) × (r ≤ 64) ⌝ }
+{
+    if count < 64 {
+        return count;
+    }
+    64
+}
+
+// The lines of the first answers, so many of them or all 64, into a lent buffer.
 pub fn write(answers: [paper::Answer; 64], count: usize, out: &mut [u8]) -> paper::Answer
-    requires { ⌜ count ≤ 64 ⌝ }
     ensures { λ r. ⌜ Output (linesFrom 0 (take count answers)) (now (out .entry)) (now (out .exit)) r ⌝ }
 {
+    let most = shown(count);
     let mut nowhere = [0u8; 0];
-    let needed = put_lines(&mut nowhere, answers, count);
+    let needed = put_lines(&mut nowhere, answers, most);
     if out.len() < needed {
         return no_room();
     }
-    put_lines(out, answers, count);
+    put_lines(out, answers, most);
     accepted(needed)
 }
 
