@@ -1,12 +1,12 @@
 -- What an entry's answer depends on, proved of the definitions.
-use Prim.Native.Nat.{ℕ, _+_, _*_, _-_, _≤_, _<_}
+use Prim.Native.Nat.{ℕ, zero, suc, _+_, _*_, _/_, _%_, _≤_, _<_}
 use mathlib.Core.Bool.{Bool, true, false, cond}
 use mathlib.Core.Path.{_≡_, refl, ap, sym, _∙_}
 use mathlib.Core.Logic.{_⊎_, ⊎-elim}
-use mathlib.Core.List.{List}
+use mathlib.Core.List.{List, [], _∷_, _++_}
 use native.Mathlib.Omega.{arith}
 use native.Mathlib.Decide.{decLt}
-use borrow.Author.Tests.{le-leb}
+use borrow.Author.Tests.{le-leb, ne-eqb}
 use lib.Dec.{ltb, leb, eqb}
 use lib.ListN.{length, set, take, drop, length-set, length-take, length-drop}
 use lib.Seq.{ext-getD, getD-take, getD-drop, getD-set-other}
@@ -15,10 +15,10 @@ use Rattle.paper.specs.Upload.{byteAt, fourAt}
 use Rattle.paper.specs.Refusals.{refusal}
 use Rattle.paper.specs.Calls.{replayBehind}
 use Rattle.paper.specs.Batch.{headerEnd, countOf, offsetOf, lengthOf, partOf, headerWrong, spanOutside, entryAnswer, answersOf}
-use Rattle.paper.specs.Lines.{lineOf, textOf, linesFrom}
+use Rattle.paper.specs.Lines.{digit, digits, decimal, space, newline, lineOf, textOf}
 use Rattle.lines.proofs.Ordered.{lines-joined}
 use Rattle.batch.specs.Inside.{Header, Inside}
-use Rattle.batch.specs.Independent.{HeaderFirst, SpanNext, PartReplayed, EqualParts, NothingElse, ByteOutside, LineEach, Independent}
+use Rattle.batch.specs.Independent.{HeaderFirst, SpanNext, PartReplayed, EqualParts, NothingElse, ByteOutside, LineEach, LineEnds, Independent, newlines}
 use Rattle.batch.proofs.Tests.{header-right, span-inside}
 
 pub header-first : HeaderFirst
@@ -113,6 +113,40 @@ byte-outside batch i k byte behind apart =
     (λ j h. sym (getD-set-other batch k j byte 0 (λ z. omega arith)))
     (λ j from to. sym (getD-set-other batch k j byte 0 (λ z. ⊎-elim (λ before. omega arith) (λ after. omega arith) apart))))
 
+newlines-append : (l m : List ℕ) → newlines (l ++ m) ≡ newlines l + newlines m
+unfolding newlines
+newlines-append [] m = omega arith
+newlines-append (b ∷ l) m = let h = newlines-append l m in omega arith
+
+newlines-digit : (k : ℕ) → newlines (digit k ∷ []) ≡ 0
+unfolding newlines
+newlines-digit k = rw (ne-eqb (digit k) newline (λ e. omega arith))
+
+newlines-digits : (more k : ℕ) → newlines (digits more k) ≡ 0
+unfolding digits
+newlines-digits zero k = newlines-digit k
+newlines-digits (suc more) k = go (ltb k 10) (newlines-digits more (k / 10))
+  where
+    go : (b : Bool) → newlines (digits more (k / 10)) ≡ 0 → newlines (cond b (digit k ∷ []) (digits more (k / 10) ++ (digit (k % 10) ∷ []))) ≡ 0
+    go true h = newlines-digit k
+    go false h = let last = newlines-digit (k % 10) in omega (arith, newlines-append (digits more (k / 10)) (digit (k % 10) ∷ []))
+
+-- a number after others on a line
+newlines-next : (front : List ℕ) (k : ℕ) → newlines front ≡ 0 → newlines (front ++ (space ∷ decimal k)) ≡ 0
+unfolding newlines
+newlines-next front k h = omega (arith, newlines-digits 4 k, newlines-append front (space ∷ decimal k))
+
+pub line-ends : LineEnds
+unfolding lineOf
+line-ends i a = (
+  _,
+  refl,
+  newlines-next _ (a .waiting)
+      (newlines-next _ (a .root)
+      (newlines-next _ (a .outcome)
+      (newlines-next _ (a .steps) (newlines-next _ (a .place) (newlines-next _ (a .refusal) (newlines-digits 4 i)))))),
+)
+
 pub independent : Independent
 independent =
     record {
@@ -123,4 +157,5 @@ independent =
       nothingElse = nothing-else;
       byteOutside = byte-outside;
       lineEach = line-each;
+      lineEnds = line-ends;
     }

@@ -13,15 +13,15 @@ use Rattle.paper.specs.Batch.{countOf, headerWrong, entryAnswer, answersOf}
 use Rattle.paper.specs.Lines.{refusedLine, linesFrom, textOf, linesAnswer, linesBuffer}
 use Rattle.lines.specs.Output.{textAnswer, textBuffer, Output}
 use Rattle.lines.proofs.Ordered.{length-listOf}
+use Rattle.batch.proofs.Tests.{header-right}
 
 -- the text, answered and left in the buffer as document 01 says
-pub record Printed (batch before after : List ℕ) (answer : Answer) : Type 0 where
-  pub answered : answer ≡ linesAnswer batch before
-  pub left : after ≡ linesBuffer batch before
+abbrev pub Printed : List ℕ → List ℕ → List ℕ → Answer → Type 0
+Printed batch before after answer = (answer ≡ linesAnswer batch before) × (after ≡ linesBuffer batch before)
 
-pub printed : {batch before after : List ℕ} {answer : Answer} {text : List ℕ} → textOf batch ≡ text → Output text before after answer → Printed batch before after answer
+pub printed : (batch before : List ℕ) {after text : List ℕ} {answer : Answer} → textOf batch ≡ text → Output text before after answer → Printed batch before after answer
 unfolding linesAnswer linesBuffer textAnswer textBuffer
-printed e o = record { answered = rw e (o .answered); left = rw e (o .left) }
+printed batch before e o = (rw e (o .answered), rw e (o .left))
 
 pub text-refused : (batch : List ℕ) → headerWrong batch ≡ true → textOf batch ≡ refusedLine
 unfolding textOf
@@ -41,6 +41,7 @@ first-answers n m f h =
     let e : n + (m - n) ≡ m = omega arith in
     rw e at (first-of n (m - n) f)
 
-pub text-lines : (batch : List ℕ) → headerWrong batch ≡ false → countOf batch ≤ 64 → textOf batch ≡ linesFrom 0 (take (countOf batch) (listOf 64 (entryAnswer batch)))
+pub text-lines : (batch : List ℕ) → headerWrong batch ≡ false → textOf batch ≡ linesFrom 0 (take (countOf batch) (listOf 64 (entryAnswer batch)))
 unfolding textOf answersOf
-text-lines batch e most = rw (e, first-answers (countOf batch) 64 (entryAnswer batch) most)
+text-lines batch e =
+    rw (e, first-answers (countOf batch) 64 (entryAnswer batch) (header-right batch e .most))

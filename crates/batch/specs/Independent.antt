@@ -3,13 +3,15 @@ use Prim.Native.Nat.{ℕ, _+_, _≤_, _<_}
 use mathlib.Core.Bool.{true, false}
 use mathlib.Core.Path.{_≡_}
 use mathlib.Core.Logic.{_⊎_}
-use mathlib.Core.List.{List}
+use mathlib.Core.List.{List, [], _∷_, _++_}
+use lib.Dec.{eqb}
 use lib.ListN.{length, set}
-use Rattle.counting.specs.Count.{joined}
+use Rattle.counting.specs.Count.{bit, joined}
+use Rattle.paper.specs.declared.Answer.{Answer}
 use Rattle.paper.specs.Upload.{byteAt}
 use Rattle.paper.specs.Calls.{refusedWith, replayAnswer}
 use Rattle.paper.specs.Batch.{headerEnd, countOf, offsetOf, lengthOf, partOf, headerWrong, spanOutside, entryAnswer}
-use Rattle.paper.specs.Lines.{lineOf, textOf}
+use Rattle.paper.specs.Lines.{newline, lineOf, textOf}
 
 -- every entry of a batch with a refused header is answered 1
 abbrev pub HeaderFirst : Type 0
@@ -65,6 +67,15 @@ abbrev pub LineEach : Type 0
 LineEach =
     (batch : List ℕ) → headerWrong batch ≡ false → textOf batch ≡ joined (countOf batch) (λ i. lineOf i (entryAnswer batch i))
 
+-- how many bytes are newlines
+unfoldable pub newlines : List ℕ → ℕ
+newlines [] = 0
+newlines (b ∷ rest) = bit (eqb b newline) + newlines rest
+
+-- a line ends with its one newline
+abbrev pub LineEnds : Type 0
+LineEnds = (i : ℕ) (a : Answer) → (front : List ℕ) × (lineOf i a ≡ front ++ (newline ∷ [])) × (newlines front ≡ 0)
+
 pub record Independent : Type 0 where
   pub headerFirst : HeaderFirst
   pub spanNext : SpanNext
@@ -73,3 +84,4 @@ pub record Independent : Type 0 where
   pub nothingElse : NothingElse
   pub byteOutside : ByteOutside
   pub lineEach : LineEach
+  pub lineEnds : LineEnds

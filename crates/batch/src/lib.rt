@@ -47,7 +47,7 @@ fn length(batch: &[u8], number: usize) -> usize
 }
 
 // 1: the batch under 4 bytes or over 65,536, c out of range, or entries beyond its end.
-pub fn header_refused(batch: &[u8]) -> bool
+fn header_refused(batch: &[u8]) -> bool
     ensures { λ r. ⌜ r ≡ headerWrong (now (batch .entry)) ⌝ }
 {
     let size = batch.len();
@@ -59,7 +59,7 @@ pub fn header_refused(batch: &[u8]) -> bool
 }
 
 // 2: the span starts before the header's end, or offset plus length passes the batch's length; or there is no such entry.
-pub fn span_outside(batch: &[u8], number: usize) -> bool
+fn span_outside(batch: &[u8], number: usize) -> bool
     requires { ⌜ headerWrong (now batch) ≡ false ⌝ }
     ensures { λ r. ⌜ r ≡ spanOutside (now (batch .entry)) number ⌝ }
 {
@@ -73,7 +73,7 @@ pub fn span_outside(batch: &[u8], number: usize) -> bool
 }
 
 // The part of the batch that an entry names, and nothing else of it.
-pub fn part(batch: &[u8], number: usize) -> &[u8]
+fn part(batch: &[u8], number: usize) -> &[u8]
     requires { ⌜ (headerWrong (now batch) ≡ false) × (spanOutside (now batch) number ≡ false) ⌝ }
     ensures { λ r. ⌜ now r ≡ partOf (now (batch .entry)) number ⌝ }
 {
