@@ -15,3 +15,15 @@ pub mod AfterResolve
 pub mod AfterChildrenKnown
 pub mod LocalRuns
 pub mod PublishedRuns
+pub mod Ends
+pub mod Into
+pub mod Balance
+pub mod Pieces
+pub mod Peeling
+pub mod Left
+pub mod Course
+pub mod Closed
+pub mod Rest
+pub mod Furthest
+pub mod Election
+pub mod Examples

@@ -1,2 +1,4 @@
 pub mod Local
+pub mod Demand
 pub mod Invariants
+pub mod Examples

@@ -1,31 +1,31 @@
 -- A sound image and the marks and messages that it shows determine each other.
-use Prim.Native.Nat.{ℕ, zero, suc, _+_, _-_, _*_, _/_, _%_, _<_, _≤_}
-use mathlib.Core.Bool.{Bool, true, false, not, cond, _&&_, true≢false, false≢true}
+use Prim.Native.Nat.{ℕ, zero, suc, _+_, _-_, _*_, _/_, _<_, _≤_}
+use mathlib.Core.Bool.{Bool, true, false, not, cond, _&&_, false≢true}
 use mathlib.Core.Path.{_≡_, refl, sym, ap, subst, _∙_, fun-ext}
 use mathlib.Core.Logic.{_⊎_, inl, inr}
 use mathlib.Core.List.{List, [], _∷_, _++_}
 use lib.Dec.{eqb, ltb}
 use lib.ListN.{length, getD, length-append, List·getD-append}
 use lib.Seq.{getD-append-add, ext-getD}
-use borrow.Author.Tests.{eqb-true, eqb-false, eq-eqb, ltb-true, ltb-false, lt-ltb, le-ltb, not-true}
+use borrow.Author.Tests.{eqb-true, ltb-true, ltb-false, lt-ltb, le-ltb}
 use native.Mathlib.Omega.{arith}
 use native.Mathlib.Decide.{ℕ-discrete, decLt}
 use Rattle.counting.specs.Count.{bit, all, listOf, joined}
 use Rattle.paper.specs.Upload.{byteAt}
 use Rattle.paper.specs.Table.{Table, source, target, EndsBelow}
 use Rattle.paper.specs.State.{Message, none, request, acknowledgement, State, fresh}
-use Rattle.paper.specs.Steps.{Step, childrenKnown, addChild, acknowledge, resolve, becomeRoot, possible, effect, at, outOf, sends, carries}
+use Rattle.paper.specs.Steps.{Step, childrenKnown, addChild, acknowledge, resolve, becomeRoot, possible, effect, at, sends, carries}
 use Rattle.paper.specs.Image.{nodeByte, messageNumber, directionByte, imageOf, imageLength, directionAt, odd, messageOf, stateOf, soundDirection, sound, fits}
 use Rattle.paper.specs.Meanings.{Shown, SoundMarks}
 use Rattle.paper.proofs.Tests.{and-left, and-right, and-both, all-true, all-holds}
-use Rattle.paper.proofs.Changes.{at-elim, at-away, at-direction-elim, at-direction-away, InTable, possible-in-table}
+use Rattle.paper.proofs.Changes.{at-elim, at-away, at-direction-elim, at-direction-away, possible-in-table}
 
 pub length-listOf {ℓ} : {A : Type ℓ} (n : ℕ) (f : ℕ → A) → length (listOf n f) ≡ n
 unfolding listOf
 length-listOf zero f = refl
 length-listOf (suc n) f = let h = length-listOf n f in length-append (listOf n f) (f n ∷ []) ∙ omega arith
 
--- the list with one more at its end, read below that end and at it
+-- two lists one behind the other, read in the first of n and in the second
 getD-below {ℓ} : {A : Type ℓ} (l r : List A) (d : A) (n j : ℕ) → length l ≡ n → j < n → getD (l ++ r) j d ≡ getD l j d
 getD-below l r d n j e h = List·getD-append l r d j (rw e h)
 
@@ -210,7 +210,7 @@ shown-effect t s (becomeRoot x) ends shown e =
       message = shown .message;
     }
 
--- a node's mark that the image shows, where the table ends with the nodes
+-- a mark that an image shows is the state's, where the state has none from n on
 shown-mark : (n x : ℕ) (a b : Bool) → (x < n → a ≡ b) → (n ≤ x → b ≡ false) → ltb x n && a ≡ b
 shown-mark n x a b inside outside = go (ltb x n) refl
   where

@@ -3,6 +3,7 @@ pub mod Tests
 pub mod OnePiece
 pub mod Changes
 pub mod Images
+pub mod Kept
 pub mod Passing
 pub mod Published
 pub mod Moving

@@ -1,22 +1,23 @@
 -- The list holds exactly the possible steps, each once, ascending.
-use Prim.Native.Nat.{ℕ, zero, suc, _+_, _*_, _<_, _≤_}
-use mathlib.Core.Bool.{Bool, true, false, not, cond, true≢false, false≢true}
+use Prim.Native.Nat.{ℕ, zero, suc, _<_, _≤_}
+use mathlib.Core.Bool.{Bool, true, false, cond}
 use mathlib.Core.Path.{_≡_, refl, sym, ap, subst, _∙_}
 use mathlib.Core.Logic.{_⊎_, inl, inr, ⊎-elim, _↔_, Iff·trans}
 use mathlib.Core.List.{List, [], _∷_, _++_}
-use lib.Dec.{eqb, ltb, leb}
-use borrow.Author.Tests.{eqb-true, eqb-false, eq-eqb}
+use lib.Dec.{eqb}
+use borrow.Author.Tests.{eqb-true, eq-eqb}
 use native.Mathlib.Omega.{arith}
 use native.Mathlib.Decide.{ℕ-discrete}
 use Rattle.counting.specs.Count.{joined}
 use Rattle.paper.specs.Table.{Table, EndsBelow, NoSelfLink}
 use Rattle.paper.specs.State.{State}
-use Rattle.paper.specs.Steps.{Step, possible, Still}
+use Rattle.paper.specs.Steps.{Step, possible}
 use Rattle.paper.specs.Report.{moving}
 use Rattle.paper.specs.Actions.{Reading, names, directionFrom, nodeStep, linkStep, reading, refusedBy, entry, entriesAt, entriesOf, listed}
-use Rattle.paper.specs.Meanings.{NoRepeats, kindOf, firstOf, secondOf, Stands, three, Ascending, ListsSteps}
+use Rattle.paper.specs.Meanings.{NoRepeat, kindOf, firstOf, secondOf, Stands, three, Ascending, ListsSteps}
 use Rattle.paper.proofs.Tests.{either, clash}
 use Rattle.paper.proofs.Changes.{possible-in-table}
+use Rattle.paper.proofs.Kept.{possible-taken}
 use Rattle.paper.proofs.Moving.{moves, moving-step}
 use Rattle.paper.proofs.Readings.{Read, at-node, on-link, not-read, read, read-once, read-step}
 
@@ -199,16 +200,12 @@ nothing-stands (a ∷ b ∷ c ∷ rest) h f = absurd (f a b c (inl (refl, refl, 
 taken-step : (t : Table) (s : State) (kind x y : ℕ) → refusedBy t s (reading t kind x y) ≡ 0 → (z : Step) × (possible t s z ≡ true)
 taken-step t s kind x y = go (read t kind x y)
   where
-    takes : (c : Bool) → _≡_ {A = ℕ} (cond c 0 11) 0 → c ≡ true
-    takes true e = refl
-    takes false e = absurd (omega arith)
-
     go : {r : Reading} → Read t kind x y r → refusedBy t s r ≡ 0 → (z : Step) × (possible t s z ≡ true)
-    go (at-node node h f) e = (_, takes (possible t s (nodeStep kind x)) e)
-    go (on-link low high h g i inside f) e = (_, takes (possible t s (linkStep kind i (directionFrom t i x))) e)
+    go (at-node node h f) e = (_, possible-taken t s (nodeStep kind x) e)
+    go (on-link low high h g i inside f) e = (_, possible-taken t s (linkStep kind i (directionFrom t i x)) e)
     go (not-read number) e = absurd (omega arith)
 
-pub lists-steps : (t : Table) (s : State) → t .nodes ≤ 255 → EndsBelow t → NoSelfLink t → NoRepeats t → ListsSteps t s
+pub lists-steps : (t : Table) (s : State) → t .nodes ≤ 255 → EndsBelow t → NoSelfLink t → NoRepeat t → ListsSteps t s
 lists-steps t s bytes ends loops repeats =
     record {
       exactly = listed-exactly t s;

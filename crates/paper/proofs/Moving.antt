@@ -1,8 +1,8 @@
 -- A state is moving exactly when some step is possible.
 use Prim.Native.Nat.{ℕ, _<_}
 use mathlib.Core.Bool.{Bool, true, false, _||_}
-use mathlib.Core.Path.{_≡_, refl, sym, ap, _∙_}
-use mathlib.Core.Logic.{_⊎_, inl, inr, ⊎-elim, _↔_}
+use mathlib.Core.Path.{_≡_}
+use mathlib.Core.Logic.{⊎-elim, _↔_}
 use Rattle.counting.specs.Count.{some}
 use Rattle.paper.specs.Table.{Table}
 use Rattle.paper.specs.State.{State}

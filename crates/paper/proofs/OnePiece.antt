@@ -6,8 +6,7 @@ use lib.Dec.{eqb}
 use borrow.Author.Tests.{eqb-true, eq-eqb}
 use native.Mathlib.Omega.{arith}
 use native.Mathlib.Decide.{ℕ-discrete}
-use Rattle.counting.specs.Count.{all}
-use Rattle.paper.specs.Table.{Table, source, target, Joined, here, along, OnePiece, labels, onePiece}
+use Rattle.paper.specs.Table.{Table, Joined, here, along, OnePiece, labels, onePiece}
 use Rattle.paper.proofs.Tests.{not-not, all-true, all-holds}
 
 pub joined-trans : {t : Table} {x y z : ℕ} → Joined t x y → Joined t y z → Joined t x z

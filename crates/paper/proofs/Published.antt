@@ -1,16 +1,16 @@
 -- The steps of a table are the published automaton's actions.
-use Prim.Native.Nat.{ℕ, _<_, _≤_}
+use Prim.Native.Nat.{ℕ, _<_}
 use mathlib.Core.Bool.{Bool, true, false, not, cond, _&&_, Bool·beq, true≢false, false≢true}
-use mathlib.Core.Path.{_≡_, refl, sym, ap, subst, _∙_, fun-ext}
+use mathlib.Core.Path.{_≡_, refl, sym, ap, _∙_, fun-ext}
 use mathlib.Core.Logic.{_⊎_, inl, inr, ⊎-elim, _↔_}
-use mathlib.Core.List.{List, [], _∷_, _++_}
+use mathlib.Core.List.{List, [], _∷_}
 use lib.Dec.{eqb, ltb, leb}
 use borrow.Author.Tests.{eqb-true, eq-eqb, ltb-true, lt-ltb, leb-true, le-leb, not-true}
 use Rattle.paper.specs.Table.{Table}
-use Rattle.paper.specs.State.{Message, none, request, acknowledgement, State, fresh}
+use Rattle.paper.specs.State.{Message, none, request, acknowledgement, State}
 use Rattle.paper.specs.Steps.{Step, childrenKnown, addChild, acknowledge, resolve, becomeRoot, possible, effect, unheard, carries, isRequest, sends, outOf, at, atDirection}
 use Rattle.paper.specs.Meanings.{SoundMarks}
-use Rattle.paper.specs.Published.{Edge, InV, InE, To, source, target, inverse, from, Variables, empty, hd, tl, append, assignEdge, Init, Action, ADD-CHILD, ACK, ROOT, CHILDREN-KNOWN, RESOLVE-CONTENTION, Pre, Eff, queue, queues, actionOf, AsPublished}
+use Rattle.paper.specs.Published.{Edge, To, inverse, from, empty, hd, tl, append, assignEdge, Action, ADD-CHILD, ACK, ROOT, CHILDREN-KNOWN, RESOLVE-CONTENTION, Pre, Eff, queue, queues, actionOf, AsPublished}
 use Rattle.paper.proofs.Tests.{and-left, and-right, and-both, either}
 use Rattle.paper.proofs.Passing.{none-passes, pass-none, one-passes, pass-one}
 

@@ -1,19 +1,17 @@
 -- How three bytes are read: the cases, and that a step's three bytes, and no others, are read as that step.
-use Prim.Native.Nat.{ℕ, zero, suc, _<_, _≤_}
-use mathlib.Core.Bool.{Bool, true, false, not, cond, _&&_, _||_, true≢false, false≢true}
+use Prim.Native.Nat.{ℕ, suc, _<_, _≤_}
+use mathlib.Core.Bool.{Bool, true, false, not, cond, _&&_, false≢true}
 use mathlib.Core.Path.{_≡_, refl, sym, ap, subst, subst⁻¹, _∙_}
 use mathlib.Core.Logic.{_⊎_, inl, inr, ⊎-elim}
 use lib.Dec.{eqb, ltb, leb}
-use borrow.Author.Tests.{eqb-true, eqb-false, eq-eqb, ne-eqb, ltb-true, lt-ltb, leb-true, le-leb}
+use borrow.Author.Tests.{eqb-true, ne-eqb, ltb-true, lt-ltb, leb-true}
 use native.Mathlib.Omega.{arith}
 use native.Mathlib.Decide.{ℕ-discrete}
-use Rattle.counting.specs.Count.{least}
 use Rattle.paper.specs.Table.{Table, source, target, EndsBelow, NoSelfLink}
-use Rattle.paper.specs.State.{State}
-use Rattle.paper.specs.Steps.{Step, childrenKnown, addChild, acknowledge, resolve, becomeRoot, possible}
-use Rattle.paper.specs.Actions.{Reading, names, unread, joins, linkBetween, directionFrom, nodeStep, linkStep, readNode, readLink, ofNode, ofLink, reading, refusedBy}
-use Rattle.paper.specs.Meanings.{NoRepeats, kindOf, firstOf, secondOf}
-use Rattle.paper.proofs.Tests.{not-not, eqb-same, and-left, and-right, and-both, or-left, or-right, or-cases, either, clash, least-only, least-passes}
+use Rattle.paper.specs.Steps.{Step, childrenKnown, addChild, acknowledge, resolve, becomeRoot}
+use Rattle.paper.specs.Actions.{Reading, names, unread, joins, linkBetween, directionFrom, nodeStep, linkStep, readNode, readLink, ofNode, ofLink, reading}
+use Rattle.paper.specs.Meanings.{NoRepeat, kindOf, firstOf, secondOf}
+use Rattle.paper.proofs.Tests.{not-not, eqb-same, and-left, and-right, and-both, or-left, or-right, or-cases, clash, least-only, least-passes}
 use Rattle.paper.proofs.Changes.{InTable}
 
 -- the cases of a reading: a node's step, a link's step, or a number of refusal that isn't 0
@@ -112,7 +110,7 @@ joins-own t i true =
     (and-both (eqb-same (t .end i false)) (eqb-same (t .end i true)))
 
 -- a step on a link is found by the nodes of its direction
-link-read : (t : Table) → EndsBelow t → NoSelfLink t → NoRepeats t → (i : ℕ) (b : Bool) → i < t .links → (kind : ℕ) → readLink t kind (source t i b) (target t i b) ≡ names (linkStep kind i b)
+link-read : (t : Table) → EndsBelow t → NoSelfLink t → NoRepeat t → (i : ℕ) (b : Bool) → i < t .links → (kind : ℕ) → readLink t kind (source t i b) (target t i b) ≡ names (linkStep kind i b)
 link-read t ends loops repeats i b h kind =
     rw (lt-ltb (source t i b) (t .nodes) (ends i b h), lt-ltb (target t i b) (t .nodes) (ends i (not b) h), found, lt-ltb i (t .links) h, back b) refl
   where
@@ -133,7 +131,7 @@ link-read t ends loops repeats i b h kind =
     back true = ap not (ne-eqb (t .end i false) (t .end i true) (loops i h))
 
 -- a step's three bytes are read as that step
-pub read-step : (t : Table) → EndsBelow t → NoSelfLink t → NoRepeats t → (x : Step) → InTable t x → reading t (kindOf x) (firstOf t x) (secondOf t x) ≡ names x
+pub read-step : (t : Table) → EndsBelow t → NoSelfLink t → NoRepeat t → (x : Step) → InTable t x → reading t (kindOf x) (firstOf t x) (secondOf t x) ≡ names x
 unfolding reading
 read-step t ends loops repeats (childrenKnown x) h = rw (lt-ltb x (t .nodes) h) refl
 read-step t ends loops repeats (addChild i b) h = link-read t ends loops repeats i b h 2

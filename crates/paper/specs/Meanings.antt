@@ -25,8 +25,8 @@ abbrev pub SoundMarks : Table → State → Type 0
 SoundMarks t s = (i : ℕ) (b : Bool) → i < t .links → s .waiting (source t i b) ≡ true → s .message i b ≡ none
 
 -- no two links join the same two nodes, either way round
-abbrev pub NoRepeats : Table → Type 0
-NoRepeats t =
+abbrev pub NoRepeat : Table → Type 0
+NoRepeat t =
     (i j : ℕ) (b : Bool) → i < t .links → j < t .links → t .end i false ≡ t .end j b → t .end i true ≡ t .end j (not b) → i ≡ j
 
 -- the three bytes of a step: its kind, the node or the source of its direction, 255 or the target
