@@ -4,7 +4,10 @@ ghost use mathlib.Core.Bool.{false};
 ghost use Prim.Native.Nat.{_+_, _*_, _<_, _≤_, _^_};
 ghost use lib.ListN.{length};
 ghost use Rattle.paper.specs.Upload.{twoAt, fourAt};
-ghost use Rattle.paper.specs.Batch.{countOf, offsetOf, lengthOf, headerWrong, spanOutside, partOf};
+ghost use Rattle.paper.specs.Batch.{countOf, offsetOf, lengthOf, headerWrong, spanOutside, partOf, entryAnswer};
+ghost use Rattle.paper.specs.Lines.{linesAnswer, linesBuffer};
+ghost use Rattle.paper.specs.Calls.{refusedWith};
+ghost use Rattle.counting.specs.Count.{listOf};
 
 // Two bytes as a number, high byte first.
 fn two(batch: &[u8], at: usize) -> usize
@@ -80,4 +83,56 @@ fn part(batch: &[u8], number: usize) -> &[u8]
     let start = offset(batch, number);
     let end = start + length(batch, number);
     &batch[start..end]
+}
+
+// A refusal by 1 or 2: place 0, steps 0, outcome 0, root 255, waiting 0.
+fn refused(number: u8) -> paper::Answer
+    ensures { λ r. ⌜ r ≡ refusedWith (record { number = number; place = 0 }) ⌝ }
+{
+    paper::Answer {
+        refusal: number,
+        place: 0,
+        steps: 0,
+        outcome: 0,
+        root: 255,
+        waiting: 0,
+    }
+}
+
+// An entry's answer: the replay of its part, where 1 and 2 aren't given.
+pub fn entry(batch: &[u8], number: usize) -> paper::Answer
+    ensures { λ r. ⌜ r ≡ entryAnswer (now (batch .entry)) number ⌝ }
+{
+    if header_refused(batch) {
+        return refused(1);
+    }
+    if span_outside(batch, number) {
+        return refused(2);
+    }
+    replay::replay(part(batch, number))
+}
+
+// The answers of a batch, and 1 or 2 for each number of no entry.
+fn answers(batch: &[u8]) -> [paper::Answer; 64]
+    ensures { λ r. ⌜ r ≡ listOf 64 (entryAnswer (now (batch .entry))) ⌝ }
+{
+    let none = refused(2);
+    let mut all = [none; 64];
+    let mut i = 0;
+    while i < 64 {
+        let answer = entry(batch, i);
+        all[i] = answer;
+        i += 1;
+    }
+    all
+}
+
+// The printed text of a batch, into a lent buffer.
+pub fn lines(batch: &[u8], out: &mut [u8]) -> paper::Answer
+    ensures { λ r. ⌜ (r ≡ linesAnswer (now (batch .entry)) (now (out .entry))) × (now (out .exit) ≡ linesBuffer (now (batch .entry)) (now (out .entry))) ⌝ }
+{
+    if header_refused(batch) {
+        return lines::write_refused(out);
+    }
+    lines::write(answers(batch), count(batch), out)
 }
