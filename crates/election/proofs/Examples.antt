@@ -14,12 +14,11 @@ use Rattle.paper.specs.Report.{moving}
 use Rattle.paper.specs.Stuck.{size, border}
 use Rattle.paper.specs.Replays.{P3, P8, P9, P10}
 use Rattle.paper.specs.Examples.{twoLoops, tail}
-use Rattle.paper.proofs.Tests.{all-true}
+use Rattle.paper.proofs.Tests.{all-true, clash}
 use Rattle.paper.proofs.OnePiece.{one-piece}
 use Rattle.paper.proofs.Moving.{moving-still}
 use Rattle.election.specs.Demand.{reachedBy}
 use Rattle.election.specs.Examples.{chainRun, contendingRun, loopRun, tailRun, Example, Sticks, Examples}
-use Rattle.election.proofs.Updates.{clash}
 use Rattle.election.proofs.Election.{end-stuck}
 
 -- link i joins two nodes of the table

@@ -10,8 +10,8 @@ use Rattle.paper.specs.Table.{Table, EndsBelow, NoSelfLink}
 use Rattle.paper.specs.State.{State}
 use Rattle.paper.specs.Steps.{Step, possible, effect, after, taken, Still}
 use Rattle.paper.specs.Report.{moving}
-use Rattle.paper.proofs.Moving.{moving-step, moving-still}
 use Rattle.paper.specs.Meanings.{SoundMarks}
+use Rattle.paper.proofs.Moving.{moving-step, moving-still}
 use Rattle.election.proofs.Ends.{runs-end}
 
 -- Some step is possible, or none is.

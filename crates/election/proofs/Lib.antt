@@ -1,4 +1,3 @@
-pub mod Places
 pub mod Updates
 pub mod Directions
 pub mod Unheard

@@ -7,9 +7,10 @@ use mathlib.Core.Logic.{inl, inr, ⊎-elim}
 use Rattle.paper.specs.Table.{Table, source, target, EndsBelow}
 use Rattle.paper.specs.State.{none, State, fresh}
 use Rattle.paper.specs.Steps.{Step, after, Run}
+use Rattle.paper.proofs.Tests.{clash}
 use Rattle.election.specs.Local.{Local}
 use Rattle.election.specs.Invariants.{Published}
-use Rattle.election.proofs.Updates.{clash, fails, passes, either, target-back}
+use Rattle.election.proofs.Updates.{fails, passes, either, target-back}
 use Rattle.election.proofs.Messages.{loaded}
 use Rattle.election.proofs.OneUnheard.{rest-child}
 use Rattle.election.proofs.LocalRuns.{local-run}
