@@ -25,4 +25,5 @@ pub mod Closed
 pub mod Rest
 pub mod Furthest
 pub mod Election
+pub mod Replays
 pub mod Examples
