@@ -15,7 +15,7 @@ use Rattle.paper.proofs.Moving.{moving-step, moving-still}
 use Rattle.election.proofs.Ends.{runs-end}
 
 -- Some step is possible, or none is.
-some-step : (t : Table) (s : State) → ((x : Step) × (possible t s x ≡ true)) ⊎ Still t s
+pub some-step : (t : Table) (s : State) → ((x : Step) × (possible t s x ≡ true)) ⊎ Still t s
 some-step t s = go (moving t s) refl
   where
     go : (m : Bool) → moving t s ≡ m → ((x : Step) × (possible t s x ≡ true)) ⊎ Still t s

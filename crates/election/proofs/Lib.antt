@@ -26,4 +26,5 @@ pub mod Rest
 pub mod Furthest
 pub mod Election
 pub mod Replays
+pub mod Runner
 pub mod Examples
