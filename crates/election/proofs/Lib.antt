@@ -27,4 +27,5 @@ pub mod Furthest
 pub mod Election
 pub mod Replays
 pub mod Runner
+pub mod Refused
 pub mod Examples
