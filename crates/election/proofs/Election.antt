@@ -65,7 +65,7 @@ fresh-potential t below =
     let c = count-none (t .nodes) (λ x. false) (λ x l. refl) in omega arith
 
 -- two tests that imply each other
-same-test : (p q : Bool) → (p ≡ true → q ≡ true) → (q ≡ true → p ≡ true) → p ≡ q
+pub same-test : (p q : Bool) → (p ≡ true → q ≡ true) → (q ≡ true → p ≡ true) → p ≡ q
 same-test true q f g = sym (f refl)
 same-test false true f g = g refl
 same-test false false f g = refl

@@ -28,4 +28,5 @@ pub mod Election
 pub mod Replays
 pub mod Runner
 pub mod Refused
+pub mod Alike
 pub mod Examples
