@@ -29,4 +29,6 @@ pub mod Replays
 pub mod Runner
 pub mod Refused
 pub mod Alike
+pub mod Logs
+pub mod LogOf
 pub mod Examples

@@ -49,7 +49,7 @@ module _ (upload : List ℕ) where
     pub all : replayFrom upload s i k .refusal .number ≡ 0 → length xs ≡ k
 
   -- an action that is taken
-  next : (s : State) (i k : ℕ) (z : Step) → actionOf upload i ≡ names z → possible (tableOf upload) s z ≡ true → replayFrom upload s i (suc k) ≡ replayFrom upload (effect (tableOf upload) s z) (suc i) k
+  pub next : (s : State) (i k : ℕ) (z : Step) → actionOf upload i ≡ names z → possible (tableOf upload) s z ≡ true → replayFrom upload s i (suc k) ≡ replayFrom upload (effect (tableOf upload) s z) (suc i) k
   unfolding replayFrom
   next s i k z e p =
       ap go e
