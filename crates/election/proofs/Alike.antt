@@ -1,13 +1,13 @@
 -- Two tables with the same nodes and links: the same steps are possible, with the same effect and the same report.
-use Prim.Native.Nat.{ℕ, _+_, _<_}
+use Prim.Native.Nat.{ℕ, _<_}
 use mathlib.Core.Bool.{Bool, true, false, not, cond, _&&_}
-use mathlib.Core.Path.{_≡_, refl, sym, ap, _∙_, fun-ext}
+use mathlib.Core.Path.{_≡_, refl, sym, ap, _∙_}
 use mathlib.Core.List.{List, [], _∷_}
 use lib.Dec.{eqb, ltb, leb}
 use borrow.Author.Tests.{ltb-true}
 use Rattle.counting.specs.Count.{bit}
 use Rattle.counting.proofs.Directions.{both-eq}
-use Rattle.paper.specs.Table.{Table, source, target}
+use Rattle.paper.specs.Table.{Table}
 use Rattle.paper.specs.State.{none, State}
 use Rattle.paper.specs.Steps.{Step, childrenKnown, addChild, acknowledge, resolve, becomeRoot, unheard, carries, isRequest, sends, outOf, at, atDirection, possible, effect, after, taken}
 use Rattle.paper.specs.Report.{moving, outcomeOf, outcomeAtRest, roots, waitingCount}

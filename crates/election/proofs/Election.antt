@@ -91,7 +91,7 @@ module _ (t : Table) (one : 1 ≤ t .nodes) (below : EndsBelow t) (apart : NoSel
       let a = length-potential t (fresh t) (begun .local .silent) xs r in
       let b = fresh-potential t below in omega arith
 
-  few-roots : (xs : List Step) → Run t xs → roots t (reachedBy t xs) ≤ 1
+  pub few-roots : (xs : List Step) → Run t xs → roots t (reachedBy t xs) ≤ 1
   few-roots xs r = go (reached-left t below apart (reachedBy t xs) (every-reached xs r)) (roots-full t (reachedBy t xs) (every-reached xs r .local))
     where
       go : Left t (reachedBy t xs) → roots t (reachedBy t xs) ≤ full t (reachedBy t xs) → roots t (reachedBy t xs) ≤ 1
@@ -190,7 +190,7 @@ module _ (t : Table) (one : 1 ≤ t .nodes) (below : EndsBelow t) (apart : NoSel
   pub with-loop : t .nodes ≤ t .links → (K : ℕ → Bool) → Stuck t K → WithLoop t K
   with-loop loop K stuck =
       record {
-        noRoot = λ xs r. count-zero (t .nodes) (reachedBy t xs .root) (never-root loop xs r);
+        noRoot = never-root loop;
         noneResolved = never-resolved loop;
         steps =
             λ xs e.

@@ -31,4 +31,5 @@ pub mod Refused
 pub mod Alike
 pub mod Logs
 pub mod LogOf
+pub mod Answers
 pub mod Examples

@@ -1,25 +1,23 @@
 -- The log of a run: the upload with the same table and three bytes for each step.
 use Prim.Native.Nat.{ℕ, zero, suc, _+_, _*_, _≤_, _<_}
-use mathlib.Core.Bool.{Bool, true, false, not, cond}
+use mathlib.Core.Bool.{Bool, true, false, not}
 use mathlib.Core.Path.{_≡_, refl, sym, ap, subst, _∙_}
-use mathlib.Core.Logic.{_⊎_, inl, inr, ⊎-elim}
 use mathlib.Core.List.{List, [], _∷_, _++_}
 use native.Mathlib.Omega.{arith}
-use lib.Dec.{eqb}
-use lib.ListN.{length, getD, take, drop, length-append, length-drop, List·getD-append}
+use lib.ListN.{length, take, drop, length-append, length-drop, List·getD-append}
 use lib.Seq.{length-take-le, getD-append-add, getD-take, getD-drop}
-use borrow.Author.Tests.{eqb-true, eq-eqb}
 use Rattle.counting.specs.Count.{bit}
 use Rattle.counting.proofs.Bits.{bit-most}
 use Rattle.paper.specs.Upload.{byteAt, nodesOf, linksOf, actionsOf, linkAt, actionAt, exactLength}
-use Rattle.paper.specs.Table.{Table, tableOf, source, target, OnePiece, Joined, here, along}
+use Rattle.paper.specs.Table.{Table, tableOf, Joined, here, along}
 use Rattle.paper.specs.State.{State, fresh}
-use Rattle.paper.specs.Steps.{Step, childrenKnown, addChild, acknowledge, resolve, becomeRoot, possible, effect, after, taken, Run}
-use Rattle.paper.specs.Actions.{reading, names}
-use Rattle.paper.specs.Refusals.{Refusal, accepted, first, refusal, tableRefusal}
-use Rattle.paper.specs.Calls.{Replayed, reported, answered, hasState, trying, refusedWith, actionOf, replayFrom, replayed, replayBehind, replayAnswer}
+use Rattle.paper.specs.Steps.{Step, childrenKnown, addChild, acknowledge, resolve, becomeRoot, possible, effect, taken, Run}
+use Rattle.paper.specs.Report.{rootOf, waitingCount, outcomeOf}
+use Rattle.paper.specs.Actions.{reading}
+use Rattle.paper.specs.Refusals.{Refusal, accepted, refusal, tableRefusal}
+use Rattle.paper.specs.Calls.{Replayed, reported, answered, trying, replayFrom, replayed, replayBehind, replayAnswer}
 use Rattle.paper.specs.Meanings.{kindOf, firstOf, secondOf}
-use Rattle.paper.proofs.Tests.{clash, and-left, and-right}
+use Rattle.paper.proofs.Tests.{and-left, and-right}
 use Rattle.paper.proofs.Changes.{InTable, possible-in-table}
 use Rattle.paper.proofs.Readings.{read-step}
 use Rattle.table.specs.Accepted.{Accepted}
@@ -27,11 +25,10 @@ use Rattle.table.specs.ExactlyWhen.{LinkPasses}
 use Rattle.table.proofs.ExactlyWhen.{exactly-when, passes-all}
 use Rattle.table.proofs.Laws.{accepted-laws}
 use Rattle.election.specs.Demand.{reachedBy}
-use Rattle.election.specs.Logs.{NamesFrom, ReplayIsRun, LogIsRun, Bytes, IsLogOf, RunsAndLogs}
+use Rattle.election.specs.Logs.{NamesFrom, Bytes, IsLogOf}
 use Rattle.election.proofs.Election.{few-steps}
 use Rattle.election.proofs.Alike.{SameEnds, taken-alike, outcome-alike}
-use Rattle.election.proofs.Replays.{next, replay-run}
-use Rattle.election.proofs.Refused.{Behind, behind}
+use Rattle.election.proofs.Replays.{takes-all}
 
 -- three bytes for each step
 abbrev bytesOf : Table → List Step → List ℕ
@@ -73,6 +70,26 @@ module _ (u : List ℕ) (good : tableRefusal u .number ≡ 0) (xs : List Step) (
   few =
       let steps = few-steps (tableOf u) (laws .someNode) (laws .ends) (laws .noSelf) (laws .piece) xs run in
       let fit = laws .nodesFit in omega arith
+
+  end-byte : (i : ℕ) (b : Bool) → i < linksOf u → tableOf u .end i b < 256
+  end-byte i b l =
+      let below = laws .ends i b l in
+      let fit = laws .nodesFit in omega arith
+
+  -- the three bytes of a step of the table
+  step-bytes : (x : Step) → InTable (tableOf u) x → (kindOf x < 256) × (firstOf (tableOf u) x < 256) × (secondOf (tableOf u) x < 256)
+  step-bytes (childrenKnown x) l = let fit = laws .nodesFit in (omega arith, omega arith, omega arith)
+  step-bytes (addChild i b) l = (omega arith, end-byte i b l, end-byte i (not b) l)
+  step-bytes (acknowledge i b) l = (omega arith, end-byte i b l, end-byte i (not b) l)
+  step-bytes (resolve i b) l = (omega arith, end-byte i b l, end-byte i (not b) l)
+  step-bytes (becomeRoot x) l = let fit = laws .nodesFit in (omega arith, omega arith, omega arith)
+
+  steps-bytes : (s : State) (ys : List Step) → taken (tableOf u) s ys ≡ true → Bytes (bytesOf (tableOf u) ys)
+  unfolding taken
+  steps-bytes s [] h = tt
+  steps-bytes s (y ∷ ys) h =
+      let (kind, one, two) = step-bytes y (possible-in-table (tableOf u) s y (and-left (possible (tableOf u) s y) _ h)) in
+      (kind, (one, (two, steps-bytes (effect (tableOf u) s y) ys (and-right (possible (tableOf u) s y) _ h))))
 
   length-links : length (linkBytes u) ≡ 2 * linksOf u
   length-links =
@@ -131,11 +148,14 @@ module _ (u : List ℕ) (good : tableRefusal u .number ≡ 0) (xs : List Step) (
       let w = passes-all u good in
       let few = few in
       let a = actions in
-      exactly-when (logOf u xs) 0 .accepted .1
-      (refl, record {
-        header = record { range = record { someNode = laws .someNode; nodesFit = laws .nodesFit; linksFit = laws .linksFit; actionsFit = omega arith }; exact = exact };
-        links = λ i l. link-alike i l (w .0 .links i l);
-      }, λ x l. joined-alike 0 x (w .1 x l))
+      exactly-when (logOf u xs) 0 .accepted .1 (
+        refl,
+        record {
+          header = record { range = record { someNode = laws .someNode; nodesFit = laws .nodesFit; linksFit = laws .linksFit; actionsFit = omega arith }; exact = exact };
+          links = λ i l. link-alike i l (w .0 .links i l);
+        },
+        λ x l. joined-alike 0 x (w .1 x l),
+      )
 
   log-laws : Accepted (logOf u xs)
   log-laws = accepted-laws (logOf u xs) (ap (λ (r : Refusal). r .number) log-accepted)
@@ -178,3 +198,54 @@ module _ (u : List ℕ) (good : tableRefusal u .number ≡ 0) (xs : List Step) (
 
       two : byteAt (logOf u xs) (actionAt (logOf u xs) i + 2) ≡ secondOf (tableOf (logOf u xs)) y
       two = at 2 ∙ second-alike y inside
+
+  alike : (taken (tableOf (logOf u xs)) (fresh (tableOf u)) xs ≡ true) × (reachedBy (tableOf u) xs ≡ reachedBy (tableOf (logOf u xs)) xs)
+  alike = taken-alike (tableOf u) (tableOf (logOf u xs) .end) same-ends (fresh (tableOf u)) xs run
+
+  log-named : NamesFrom (logOf u xs) 0 xs
+  unfolding Stand
+  log-named =
+      names-steps (fresh (tableOf u)) 0 xs (alike .0)
+      (λ k.
+      let place : actionAt (logOf u xs) 0 + k ≡ 4 + 2 * linksOf u + k = omega arith in
+      ap (byteAt (logOf u xs)) place ∙ byte-action k)
+
+  log-replayed : replayed (logOf u xs) ≡ record { refusal = accepted; steps = length xs; state = reachedBy (tableOf u) xs }
+  unfolding replayed
+  log-replayed =
+      ap (replayFrom (logOf u xs) (fresh (tableOf u)) 0) actions
+      ∙ takes-all (logOf u xs) (fresh (tableOf u)) 0 xs log-named (alike .0)
+      ∙ (λ j. record { refusal = accepted; steps = count j; state = sym (alike .1) j })
+    where
+      count : 0 + length xs ≡ length xs
+      count = omega arith
+
+  log-bytes : Bytes u → Bytes (logOf u xs)
+  log-bytes h =
+      let nodes = laws .nodesFit in
+      let links = laws .linksFit in
+      let steps = few in
+      (omega arith, (omega arith, (omega arith, (omega arith, bytes-append (linkBytes u) (bytesOf (tableOf u) xs) (bytes-take (2 * linksOf u) (drop 4 u) (bytes-drop 4 u h)) (steps-bytes (fresh (tableOf u)) xs run)))))
+
+  log-answer : replayAnswer (logOf u xs) ≡ reported accepted (length xs) (tableOf u) (reachedBy (tableOf u) xs)
+  unfolding replayBehind
+  log-answer =
+      ap (λ (r : Replayed). answered (refusal (logOf u xs) (trying accepted (r .refusal) accepted)) (r .steps) (tableOf (logOf u xs)) (r .state)) log-replayed
+      ∙ ap (λ r. answered r (length xs) (tableOf (logOf u xs)) (reachedBy (tableOf u) xs)) log-accepted
+      ∙ (λ j. record { refusal = 0; place = 0; steps = length xs; outcome = outcome j; root = rootOf (tableOf u) (reachedBy (tableOf u) xs); waiting = waitingCount (tableOf u) (reachedBy (tableOf u) xs) })
+    where
+      outcome : outcomeOf (tableOf (logOf u xs)) (reachedBy (tableOf u) xs) ≡ outcomeOf (tableOf u) (reachedBy (tableOf u) xs)
+      outcome = outcome-alike (tableOf u) (tableOf (logOf u xs) .end) same-ends (reachedBy (tableOf u) xs)
+
+  pub is-log : IsLogOf u xs (logOf u xs)
+  is-log =
+      record {
+        bytes = log-bytes;
+        nodes = refl;
+        links = refl;
+        ends = λ i b l. sym (same-ends i b l);
+        actions = actions;
+        named = log-named;
+        state = ap (λ (r : Replayed). r .state) log-replayed;
+        answer = log-answer;
+      }

@@ -1,18 +1,19 @@
 -- What a call is refused for: the table's refusal first, then what the call itself tries.
 use Prim.Native.Nat.{ℕ, zero, suc, _≤_}
-use mathlib.Core.Bool.{Bool, true, false, not, cond, _||_}
+use mathlib.Core.Bool.{Bool, true, false, not, cond, _&&_, _||_}
 use mathlib.Core.Path.{_≡_, refl, sym, ap, _∙_}
-use mathlib.Core.Logic.{_⊎_, inl, inr, ⊎-elim}
+use mathlib.Core.Logic.{_⊎_, inl, inr}
 use mathlib.Core.List.{List, [], _∷_, _++_}
 use native.Mathlib.Omega.{arith}
 use native.Mathlib.Decide.{ℕ-discrete}
 use lib.ListN.{length}
 use lib.Dec.{ltb, leb, eqb}
-use borrow.Author.Tests.{ne-eqb, lt-leb}
+use borrow.Author.Tests.{eq-eqb, ne-eqb, lt-leb}
 use Rattle.paper.specs.Upload.{nodesOf, linksOf, actionsOf, exactLength}
 use Rattle.paper.specs.Table.{Table, tableOf, onePiece}
+use Rattle.paper.specs.State.{State}
 use Rattle.paper.specs.Refusals.{Refusal, accepted, given, first, inRange, namesNoNode, joinsItself, repeats, linkRefusal, linksRefusal, refusal, tableRefusal}
-use Rattle.paper.specs.Calls.{trying, hasState}
+use Rattle.paper.specs.Calls.{refusedWith, reported, answered, trying, hasState}
 use Rattle.table.proofs.Order.{first-skip, first-stop}
 
 -- the first of two lists is the second's where the first refuses nothing, else the first's
@@ -101,3 +102,15 @@ table-most upload = go (first-append (checks upload) (accepted ∷ accepted ∷ 
 -- a refused table leaves no state to report
 pub no-state : (upload : List ℕ) → (tableRefusal upload .number ≡ 0 → ⊥) → hasState (tableRefusal upload) ≡ false
 no-state upload h = let most = table-most upload in rw (ne-eqb _ 0 h, lt-leb 9 (tableRefusal upload .number) (omega arith)) refl
+
+-- an answer has the number of its refusal
+pub answered-refusal : (r : Refusal) (steps : ℕ) (t : Table) (s : State) → answered r steps t s .refusal ≡ r .number
+answered-refusal r steps t s = go (hasState r)
+  where
+    go : (c : Bool) → cond c (reported r steps t s) (refusedWith r) .refusal ≡ r .number
+    go true = refl
+    go false = refl
+
+-- an accepted call reports its state
+pub answered-accepted : (r : Refusal) (steps : ℕ) (t : Table) (s : State) → r .number ≡ 0 → answered r steps t s ≡ reported r steps t s
+answered-accepted r steps t s e = ap (λ c. cond (c || (leb 9 (r .number) && leb (r .number) 11)) (reported r steps t s) (refusedWith r)) (eq-eqb (r .number) 0 e)

@@ -1,6 +1,6 @@
 -- A replay takes the steps of a run, whether it ends or an action stops it.
 use Prim.Native.Nat.{ℕ, zero, suc, _+_}
-use mathlib.Core.Bool.{Bool, true, false, cond}
+use mathlib.Core.Bool.{true, cond}
 use mathlib.Core.Path.{_≡_, refl, ap, _∙_}
 use mathlib.Core.Logic.{_⊎_, inl, inr, ⊎-elim}
 use mathlib.Core.List.{List, [], _∷_}
@@ -13,9 +13,9 @@ use Rattle.paper.specs.Table.{Table, tableOf}
 use Rattle.paper.specs.State.{State, fresh}
 use Rattle.paper.specs.Steps.{Step, possible, effect, after, taken}
 use Rattle.paper.specs.Actions.{Reading, names, nodeStep, linkStep, directionFrom, reading, refusedBy, stateAfter}
-use Rattle.paper.specs.Refusals.{Refusal}
+use Rattle.paper.specs.Refusals.{accepted}
 use Rattle.paper.specs.Calls.{Replayed, actionOf, replayFrom, replayed}
-use Rattle.paper.proofs.Tests.{either, clash, and-both}
+use Rattle.paper.proofs.Tests.{either, clash, and-left, and-right, and-both}
 use Rattle.paper.proofs.Kept.{possible-taken}
 use Rattle.paper.proofs.Readings.{Read, at-node, on-link, not-read, read}
 use Rattle.election.specs.Logs.{NamesFrom, ReplayIsRun}
@@ -34,10 +34,6 @@ tried t s kind x y = go (read t kind x y)
     go (at-node node h f) = step (nodeStep kind x)
     go (on-link low high h g i inside f) = step (linkStep kind i (directionFrom t i x))
     go (not-read number) = inr (λ e. omega arith)
-
--- an action that names a possible step leaves the state after it
-pub after-action : (t : Table) (s : State) (r : Reading) (z : Step) → r ≡ names z → stateAfter t s r ≡ effect t s z
-after-action t s r z e = ap (stateAfter t s) e
 
 module _ (upload : List ℕ) where
   -- what the k actions from action i on lead to from a state
@@ -84,3 +80,12 @@ module _ (upload : List ℕ) where
       let (xs, f) = replay-from (fresh (tableOf upload)) 0 (actionsOf upload) in
       let n = f .steps in
       (xs, record { named = f .named; run = f .taking; steps = omega arith; state = f .state }, f .all)
+
+  -- actions that name possible steps, each in its turn, are all taken
+  pub takes-all : (s : State) (i : ℕ) (ys : List Step) → NamesFrom upload i ys → taken (tableOf upload) s ys ≡ true → replayFrom upload s i (length ys) ≡ record { refusal = accepted; steps = i + length ys; state = after (tableOf upload) s ys }
+  unfolding replayFrom taken after
+  takes-all s i [] named h = ap (λ k. record { refusal = accepted; steps = k; state = s }) (omega arith)
+  takes-all s i (y ∷ ys) named h =
+      next s i (length ys) y (named .0) (and-left (possible (tableOf upload) s y) _ h)
+      ∙ takes-all (effect (tableOf upload) s y) (suc i) ys (named .1) (and-right (possible (tableOf upload) s y) _ h)
+      ∙ ap (λ k. record { refusal = accepted; steps = k; state = after (tableOf upload) (effect (tableOf upload) s y) ys }) (omega arith)

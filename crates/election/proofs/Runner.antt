@@ -1,6 +1,6 @@
 -- The runner takes the steps of a run, and stops because no step is possible.
-use Prim.Native.Nat.{ℕ, zero, suc, _+_, _*_, _≤_}
-use mathlib.Core.Bool.{Bool, true}
+use Prim.Native.Nat.{ℕ, zero, suc, _+_, _≤_}
+use mathlib.Core.Bool.{true}
 use mathlib.Core.Path.{_≡_, refl, sym, ap, subst, _∙_}
 use mathlib.Core.Logic.{_⊎_, inl, inr}
 use mathlib.Core.List.{List, [], _∷_}
@@ -12,7 +12,7 @@ use Rattle.paper.specs.State.{State}
 use Rattle.paper.specs.Steps.{Step, possible, effect, after, taken, Still}
 use Rattle.paper.specs.Actions.{reading, refusedBy, stateAfter, listed}
 use Rattle.paper.specs.Runner.{Ran, longest, runFrom}
-use Rattle.paper.specs.Meanings.{SoundMarks, NoRepeat, Stands, Ascending, ListsSteps}
+use Rattle.paper.specs.Meanings.{NoRepeat, Stands, Ascending, ListsSteps}
 use Rattle.paper.proofs.Tests.{and-both}
 use Rattle.paper.proofs.Moving.{moving-still}
 use Rattle.paper.proofs.Listed.{lists-steps}

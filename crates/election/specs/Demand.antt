@@ -38,7 +38,7 @@ pub record WithoutLoop (t : Table) : Type 0 where
 -- On a table with a loop, m at least n, with K its stuck set:
 pub record WithLoop (t : Table) (K : ℕ → Bool) : Type 0 where
   -- there is never a root
-  pub noRoot : (xs : List Step) → Run t xs → (x : ℕ) → x < t .nodes → reachedBy t xs .root x ≡ false
+  pub noRoot : (xs : List Step) → Run t xs → roots t (reachedBy t xs) ≡ 0
   -- no run resolves a contention
   pub noneResolved : (xs : List Step) → Run t xs → resolved xs ≡ 0
   -- a run that can go no further took 3(n - k) - t steps

@@ -14,6 +14,7 @@ use Rattle.paper.specs.Actions.{names, listed}
 use Rattle.paper.specs.Runner.{longest, runFrom, runner}
 use Rattle.paper.specs.Refusals.{accepted, tableRefusal}
 use Rattle.paper.specs.Calls.{reported, actionOf, replayed, replayAnswer, runAnswer}
+use Rattle.paper.specs.Batch.{entryAnswer}
 use Rattle.paper.specs.Meanings.{SoundMarks}
 use Rattle.election.specs.Demand.{reachedBy, Ended}
 
@@ -101,7 +102,15 @@ pub record ReplayAnswers (upload : List ℕ) : Type 0 where
   -- where the table is accepted there is never more than one root
   pub fewRoots : tableRefusal upload .number ≡ 0 → roots (tableOf upload) (replayed upload .state) ≤ 1
 
+-- Of every entry of a batch:
+pub record EntryAnswers (batch : List ℕ) (i : ℕ) : Type 0 where
+  -- outcome 4 is never reported
+  pub neverOdd : entryAnswer batch i .outcome ≡ 4 → ⊥
+  -- it takes at most 189 steps
+  pub boundedSteps : entryAnswer batch i .steps ≤ 189
+
 -- What demand 3 says of the calls:
 pub record Calls : Type 0 where
   pub runs : (upload image : List ℕ) → runAnswer upload image .refusal ≡ 0 → RunAnswers upload image
   pub replays : (upload : List ℕ) → ReplayAnswers upload
+  pub batches : (batch : List ℕ) (i : ℕ) → EntryAnswers batch i
