@@ -94,19 +94,18 @@ module _ (t : Table) (d : Demand t) (xs : List Step) (ended : Ended t xs) where
 
   root-outcome : t .links + 1 ≡ t .nodes → (outcomeOf t (reachedBy t xs) ≡ 2) × (waitingCount t (reachedBy t xs) ≡ 0)
   root-outcome h =
-      let w = d .withoutLoop h in
-      (at-rest ∙ rw (w .oneRoot xs ended) refl, count-none (t .nodes) (reachedBy t xs .waiting) (w .noneWaits xs ended))
+      let w = d .withoutLoop h .ends xs ended in
+      (at-rest ∙ rw (w .oneRoot) refl, count-none (t .nodes) (reachedBy t xs .waiting) (w .noneWaits))
 
   loop-outcome : t .nodes ≤ t .links → (K : ℕ → Bool) → Stuck t K → (outcomeOf t (reachedBy t xs) ≡ 3) × (waitingCount t (reachedBy t xs) ≡ size t K)
   loop-outcome loop K stuck =
       let w = d .withLoop loop K stuck in
-      let k = w .sizeWaits xs ended in
       let some : 0 < waitingCount t (reachedBy t xs) = positive (ℕ-discrete (size t K) 0) in
-      (at-rest ∙ rw (w .noRoot xs (ended .0), lt-ltb 0 (waitingCount t (reachedBy t xs)) some, le-leb (t .nodes) (t .links) loop) refl, k)
+      (at-rest ∙ rw (w .runs xs (ended .0) .noRoot, lt-ltb 0 (waitingCount t (reachedBy t xs)) some, le-leb (t .nodes) (t .links) loop) refl, w .ends xs ended .sizeWaits)
     where
       positive : Dec (size t K ≡ 0) → 0 < waitingCount t (reachedBy t xs)
       positive (yes z) = let h = d .stuckSet .empty K stuck .0 z in absurd (omega arith)
-      positive (no z) = let k = d .withLoop loop K stuck .sizeWaits xs ended in omega arith
+      positive (no z) = let k = d .withLoop loop K stuck .ends xs ended .sizeWaits in omega arith
 
 -- where the runner stops
 module _ (upload : List ℕ) (good : tableRefusal upload .number ≡ 0) where

@@ -172,12 +172,16 @@ module _ (t : Table) (one : 1 ≤ t .nodes) (below : EndsBelow t) (apart : NoSel
   no-loop : t .links + 1 ≡ t .nodes → WithoutLoop t
   no-loop h =
       record {
-        fewRoots = few-roots;
-        fewResolved = few-resolved;
-        oneRoot = λ xs e. end-root xs e (none xs e);
-        noneWaits = λ xs e. count-zero (t .nodes) (reachedBy t xs .waiting) (none xs e);
-        steps = λ xs e z. let a = end-steps xs e (none xs e) h in omega arith;
-        stepsResolved = λ xs e z. let a = end-steps xs e (none xs e) h in omega arith;
+        runs = λ xs r. record { fewRoots = few-roots xs r; fewResolved = few-resolved xs r };
+        ends =
+            λ xs e.
+            let a = end-steps xs e (none xs e) h in
+            record {
+              oneRoot = end-root xs e (none xs e);
+              noneWaits = count-zero (t .nodes) (reachedBy t xs .waiting) (none xs e);
+              steps = λ z. omega arith;
+              stepsResolved = λ z. omega arith;
+            };
       }
     where
       none : (xs : List Step) → Ended t xs → waitingCount t (reachedBy t xs) ≡ 0
@@ -190,9 +194,8 @@ module _ (t : Table) (one : 1 ≤ t .nodes) (below : EndsBelow t) (apart : NoSel
   pub with-loop : t .nodes ≤ t .links → (K : ℕ → Bool) → Stuck t K → WithLoop t K
   with-loop loop K stuck =
       record {
-        noRoot = never-root loop;
-        noneResolved = never-resolved loop;
-        steps =
+        runs = λ xs r. record { noRoot = never-root loop xs r; noneResolved = never-resolved loop xs r };
+        ends =
             λ xs e.
             let a = run-length xs (e .0) in
             let b = never-root loop xs (e .0) in
@@ -203,9 +206,11 @@ module _ (t : Table) (one : 1 ≤ t .nodes) (below : EndsBelow t) (apart : NoSel
             let h = waits-size xs e K stuck in
             let i = count-not (t .nodes) (reachedBy t xs .waiting) in
             let j = facts xs e .peeled .some (positive xs e) in
-            omega arith;
-        stillWait = λ xs e. one-stuck-set t (reachedBy t xs .waiting) K (end-stuck xs e) stuck;
-        sizeWaits = λ xs e. waits-size xs e K stuck;
+            record {
+              steps = omega arith;
+              stillWait = one-stuck-set t (reachedBy t xs .waiting) K (end-stuck xs e) stuck;
+              sizeWaits = h;
+            };
       }
     where
       positive : (xs : List Step) → Ended t xs → 0 < waitingCount t (reachedBy t xs)
