@@ -1,14 +1,12 @@
 -- The examples hold by computing.
-use Prim.Native.Nat.{ℕ, _<_}
+use Prim.Native.Nat.{ℕ, _+_, _<_}
 use mathlib.Core.Bool.{Bool, true, false, not, _&&_, and-eq-true-iff}
 use mathlib.Core.Path.{_≡_, refl}
 use mathlib.Core.List.{List, []}
-use native.Mathlib.Omega.{arith}
 use lib.Dec.{ltb, leb, eqb}
 use lib.ListN.{length}
-use borrow.Author.Tests.{ltb-true, leb-true, eq-eqb, eqb-false, not-true}
+use borrow.Author.Tests.{ltb-true, leb-true, eq-eqb, not-true}
 use Rattle.counting.specs.Count.{sum, all, some}
-use Rattle.counting.proofs.Sums.{count-zero}
 use Rattle.paper.specs.Table.{Table, tableOf, labels, onePiece}
 use Rattle.paper.specs.State.{fresh}
 use Rattle.paper.specs.Steps.{Step, possible, effect, after, taken, resolved}
@@ -19,8 +17,9 @@ use Rattle.paper.specs.Examples.{twoLoops, tail}
 use Rattle.paper.proofs.Tests.{all-true, clash}
 use Rattle.paper.proofs.OnePiece.{one-piece}
 use Rattle.paper.proofs.Moving.{moving-still}
-use Rattle.election.specs.Demand.{reachedBy, RunWithLoop, EndWithLoop}
-use Rattle.election.specs.Examples.{chainRun, contendingRun, loopRun, tailRun, Example, Sticks, Examples}
+use Rattle.election.specs.Demand.{reachedBy}
+use Rattle.election.specs.Examples.{chainRun, contendingRun, loopRun, tailRun, Example, Elects, Sticks, Examples}
+use Rattle.election.proofs.WorkedOut.{Without, With, chain-worked, contending-worked, loop-worked, tail-worked, between-worked, links-worked}
 use Rattle.election.proofs.Election.{end-stuck}
 
 -- link i joins two nodes of the table
@@ -48,13 +47,9 @@ computed t xs one links piece run rest =
     end i false l = ltb-true (t .end i false) (t .nodes) (joins i l .0)
     end i true l = ltb-true (t .end i true) (t .nodes) (joins i l .1)
 
--- numbers that the test tells apart are not equal
-other : {A : Type 0} {j k : ℕ} → eqb j k ≡ false → j ≡ k → A
-other e p = absurd (eqb-false _ _ e p)
-
 -- with the stuck set that it leaves
-sticks : (t : Table) (xs : List Step) (steps k out : ℕ) → Example t xs → leb (t .nodes) (t .links) ≡ true → length xs ≡ steps → size t (reachedBy t xs .waiting) ≡ k → border t (reachedBy t xs .waiting) ≡ out → RunWithLoop t xs → EndWithLoop t (reachedBy t xs .waiting) xs → Sticks t xs steps k out
-sticks t xs steps k out e loop taking holding bordering every end =
+sticks : (t : Table) (xs : List Step) (steps k out : ℕ) → Example t xs → leb (t .nodes) (t .links) ≡ true → length xs ≡ steps → size t (reachedBy t xs .waiting) ≡ k → border t (reachedBy t xs .waiting) ≡ out → With t xs → Sticks t xs steps k out
+sticks t xs steps k out e loop taking holding bordering worked =
     record {
       example = e;
       loop = leb-true (t .nodes) (t .links) loop;
@@ -62,47 +57,22 @@ sticks t xs steps k out e loop taking holding bordering every end =
       stuck = end-stuck t (e .one) (e .below) (e .apart) (e .joined) xs (e .ended);
       holding = holding;
       bordering = bordering;
-      every = every;
-      end = end;
+      every = worked .0;
+      end = worked .1;
     }
 
--- What demand 3 says of each run is worked out here and not taken from its proof: a false number in the demand is a false equation.
+elects : (t : Table) (xs : List Step) (steps contentions : ℕ) → Example t xs → t .links + 1 ≡ t .nodes → length xs ≡ steps → resolved xs ≡ contentions → Without t xs → Elects t xs steps contentions
+elects t xs steps contentions e no-loop taking resolving worked =
+    record { example = e; noLoop = no-loop; taking = taking; resolving = resolving; every = worked .0; end = worked .1 }
+
 pub examples-hold : Examples
 unfolding sum all some labels onePiece possible effect after taken resolved moving
 examples-hold =
     record {
-      chain =
-          record {
-            example = computed (tableOf P9) chainRun refl refl refl refl refl;
-            noLoop = refl;
-            taking = refl;
-            resolving = refl;
-            every = record { fewRoots = omega arith; fewResolved = omega arith };
-            end =
-                record {
-                  oneRoot = refl;
-                  noneWaits = count-zero 3 (reachedBy (tableOf P9) chainRun .waiting) refl;
-                  steps = λ none. refl;
-                  stepsResolved = other refl;
-                };
-          };
-      contending =
-          record {
-            example = computed (tableOf P3) contendingRun refl refl refl refl refl;
-            noLoop = refl;
-            taking = refl;
-            resolving = refl;
-            every = record { fewRoots = omega arith; fewResolved = omega arith };
-            end =
-                record {
-                  oneRoot = refl;
-                  noneWaits = count-zero 2 (reachedBy (tableOf P3) contendingRun .waiting) refl;
-                  steps = other refl;
-                  stepsResolved = λ one. refl;
-                };
-          };
-      loop = sticks (tableOf P8) loopRun 2 3 1 (computed (tableOf P8) loopRun refl refl refl refl refl) refl refl refl refl (record { noRoot = refl; noneResolved = refl }) (record { steps = refl; stillWait = λ x l. refl; sizeWaits = refl });
-      behindLoop = sticks (tableOf tail) tailRun 5 3 1 (computed (tableOf tail) tailRun refl refl refl refl refl) refl refl refl refl (record { noRoot = refl; noneResolved = refl }) (record { steps = refl; stillWait = λ x l. refl; sizeWaits = refl });
-      betweenLoops = sticks (tableOf twoLoops) [] 0 7 0 (computed (tableOf twoLoops) [] refl refl refl refl refl) refl refl refl refl (record { noRoot = refl; noneResolved = refl }) (record { steps = refl; stillWait = λ x l. refl; sizeWaits = refl });
-      twoLinks = sticks (tableOf P10) [] 0 2 0 (computed (tableOf P10) [] refl refl refl refl refl) refl refl refl refl (record { noRoot = refl; noneResolved = refl }) (record { steps = refl; stillWait = λ x l. refl; sizeWaits = refl });
+      chain = elects (tableOf P9) chainRun 8 0 (computed (tableOf P9) chainRun refl refl refl refl refl) refl refl refl chain-worked;
+      contending = elects (tableOf P3) contendingRun 6 1 (computed (tableOf P3) contendingRun refl refl refl refl refl) refl refl refl contending-worked;
+      loop = sticks (tableOf P8) loopRun 2 3 1 (computed (tableOf P8) loopRun refl refl refl refl refl) refl refl refl refl loop-worked;
+      behindLoop = sticks (tableOf tail) tailRun 5 3 1 (computed (tableOf tail) tailRun refl refl refl refl refl) refl refl refl refl tail-worked;
+      betweenLoops = sticks (tableOf twoLoops) [] 0 7 0 (computed (tableOf twoLoops) [] refl refl refl refl refl) refl refl refl refl between-worked;
+      twoLinks = sticks (tableOf P10) [] 0 2 0 (computed (tableOf P10) [] refl refl refl refl refl) refl refl refl refl links-worked;
     }

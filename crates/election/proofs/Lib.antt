@@ -1,3 +1,4 @@
+pub mod WorkedOut
 pub mod Updates
 pub mod Directions
 pub mod Unheard
