@@ -14,7 +14,7 @@ use Rattle.paper.specs.Report.{moving, outcomeOf, outcomeAtRest, roots, waiting
 use Rattle.paper.proofs.Tests.{and-left, and-right, and-both}
 use Rattle.paper.proofs.Changes.{InTable, possible-in-table}
 use Rattle.paper.proofs.Moving.{moves, moving-step}
-use Rattle.election.proofs.Election.{same-test}
+use Rattle.election.proofs.Updates.{same-test}
 
 -- a table's nodes and links with other ends
 abbrev pub withEnds : Table → (ℕ → Bool → ℕ) → Table

@@ -19,7 +19,7 @@ use Rattle.paper.specs.Stuck.{Closed, Stuck, size, border}
 use Rattle.paper.specs.Report.{moving, roots, waitingCount, outcomeAtRest}
 use Rattle.paper.proofs.Moving.{moving-still}
 use Rattle.election.specs.Demand.{reachedBy, Ended, WithoutLoop, WithLoop, StuckSet, OneStuckSet, FewSteps, NeverOdd, Demand}
-use Rattle.election.proofs.Updates.{either}
+use Rattle.election.proofs.Updates.{either, same-test}
 use Rattle.election.proofs.Directions.{directions-le}
 use Rattle.election.proofs.Ends.{stopped, isDone, done, potential, every-run-ends}
 use Rattle.election.proofs.Balance.{inside}
@@ -63,12 +63,6 @@ fresh-potential t below =
     let a = count-none (t .nodes) (λ x. not (ltb x (t .nodes))) (λ x l. ap not (lt-ltb x (t .nodes) l)) in
     let b = both-none (t .links) (λ i b. bit (isDone t (fresh t) i b)) (λ i b l. rw (lt-ltb (source t i b) (t .nodes) (below i b l)) refl) in
     let c = count-none (t .nodes) (λ x. false) (λ x l. refl) in omega arith
-
--- two tests that imply each other
-pub same-test : (p q : Bool) → (p ≡ true → q ≡ true) → (q ≡ true → p ≡ true) → p ≡ q
-same-test true q f g = sym (f refl)
-same-test false true f g = g refl
-same-test false false f g = refl
 
 pub one-stuck-set : (t : Table) → OneStuckSet t
 one-stuck-set t K L p q x l = same-test (K x) (L x) (q .largest K (p .closed) x l) (p .largest L (q .closed) x l)

@@ -19,7 +19,7 @@ use Rattle.paper.proofs.OnePiece.{one-piece}
 use Rattle.paper.proofs.Moving.{moving-still}
 use Rattle.election.specs.Demand.{reachedBy}
 use Rattle.election.specs.Examples.{chainRun, contendingRun, loopRun, tailRun, Example, Elects, Sticks, Examples}
-use Rattle.election.proofs.WorkedOut.{Without, With, chain-worked, contending-worked, loop-worked, tail-worked, between-worked, links-worked}
+use Rattle.election.proofs.AddedUp.{Without, With, chain-adds-up, contending-adds-up, loop-adds-up, tail-adds-up, between-adds-up, links-adds-up}
 use Rattle.election.proofs.Election.{end-stuck}
 
 -- link i joins two nodes of the table
@@ -49,7 +49,7 @@ computed t xs one links piece run rest =
 
 -- with the stuck set that it leaves
 sticks : (t : Table) (xs : List Step) (steps k out : ℕ) → Example t xs → leb (t .nodes) (t .links) ≡ true → length xs ≡ steps → size t (reachedBy t xs .waiting) ≡ k → border t (reachedBy t xs .waiting) ≡ out → With t xs → Sticks t xs steps k out
-sticks t xs steps k out e loop taking holding bordering worked =
+sticks t xs steps k out e loop taking holding bordering added =
     record {
       example = e;
       loop = leb-true (t .nodes) (t .links) loop;
@@ -57,22 +57,22 @@ sticks t xs steps k out e loop taking holding bordering worked =
       stuck = end-stuck t (e .one) (e .below) (e .apart) (e .joined) xs (e .ended);
       holding = holding;
       bordering = bordering;
-      every = worked .0;
-      end = worked .1;
+      every = added .0;
+      end = added .1;
     }
 
 elects : (t : Table) (xs : List Step) (steps contentions : ℕ) → Example t xs → t .links + 1 ≡ t .nodes → length xs ≡ steps → resolved xs ≡ contentions → Without t xs → Elects t xs steps contentions
-elects t xs steps contentions e no-loop taking resolving worked =
-    record { example = e; noLoop = no-loop; taking = taking; resolving = resolving; every = worked .0; end = worked .1 }
+elects t xs steps contentions e no-loop taking resolving added =
+    record { example = e; noLoop = no-loop; taking = taking; resolving = resolving; every = added .0; end = added .1 }
 
 pub examples-hold : Examples
 unfolding sum all some labels onePiece possible effect after taken resolved moving
 examples-hold =
     record {
-      chain = elects (tableOf P9) chainRun 8 0 (computed (tableOf P9) chainRun refl refl refl refl refl) refl refl refl chain-worked;
-      contending = elects (tableOf P3) contendingRun 6 1 (computed (tableOf P3) contendingRun refl refl refl refl refl) refl refl refl contending-worked;
-      loop = sticks (tableOf P8) loopRun 2 3 1 (computed (tableOf P8) loopRun refl refl refl refl refl) refl refl refl refl loop-worked;
-      behindLoop = sticks (tableOf tail) tailRun 5 3 1 (computed (tableOf tail) tailRun refl refl refl refl refl) refl refl refl refl tail-worked;
-      betweenLoops = sticks (tableOf twoLoops) [] 0 7 0 (computed (tableOf twoLoops) [] refl refl refl refl refl) refl refl refl refl between-worked;
-      twoLinks = sticks (tableOf P10) [] 0 2 0 (computed (tableOf P10) [] refl refl refl refl refl) refl refl refl refl links-worked;
+      chain = elects (tableOf P9) chainRun 8 0 (computed (tableOf P9) chainRun refl refl refl refl refl) refl refl refl chain-adds-up;
+      contending = elects (tableOf P3) contendingRun 6 1 (computed (tableOf P3) contendingRun refl refl refl refl refl) refl refl refl contending-adds-up;
+      loop = sticks (tableOf P8) loopRun 2 3 1 (computed (tableOf P8) loopRun refl refl refl refl refl) refl refl refl refl loop-adds-up;
+      behindLoop = sticks (tableOf tail) tailRun 5 3 1 (computed (tableOf tail) tailRun refl refl refl refl refl) refl refl refl refl tail-adds-up;
+      betweenLoops = sticks (tableOf twoLoops) [] 0 7 0 (computed (tableOf twoLoops) [] refl refl refl refl refl) refl refl refl refl between-adds-up;
+      twoLinks = sticks (tableOf P10) [] 0 2 0 (computed (tableOf P10) [] refl refl refl refl refl) refl refl refl refl links-adds-up;
     }

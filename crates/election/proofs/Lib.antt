@@ -1,4 +1,4 @@
-pub mod WorkedOut
+pub mod AddedUp
 pub mod Updates
 pub mod Directions
 pub mod Unheard

@@ -1,4 +1,4 @@
--- Reading a changed mark or message: at the place that was changed, and at any other.
+-- Reading a changed mark or message: at the place that was changed, and at any other; and when a test fails, passes or equals another.
 use Prim.Native.Nat.{ℕ}
 use mathlib.Core.Bool.{Bool, true, false, not, cond, _&&_, Bool·beq, Bool-discrete, and-eq-true-iff}
 use mathlib.Core.Path.{_≡_, refl, sym, ap, subst}
@@ -19,6 +19,12 @@ fails false h = refl
 pub passes : (b : Bool) → (b ≡ false → ⊥) → b ≡ true
 passes true h = refl
 passes false h = absurd (h refl)
+
+-- two tests that imply each other
+pub same-test : (p q : Bool) → (p ≡ true → q ≡ true) → (q ≡ true → p ≡ true) → p ≡ q
+same-test true q f g = sym (f refl)
+same-test false true f g = g refl
+same-test false false f g = refl
 
 -- the reverse of a direction goes to where that comes from
 pub target-back : (t : Table) (i : ℕ) (b : Bool) → target t i (not b) ≡ source t i b

@@ -1,4 +1,4 @@
--- What demand 3 says of the run of each example, worked out and not taken from its proof: a false number in the demand is a false equation here.
+-- What demand 3 says of the run of each example, added up and not taken from its proof: a false number in the demand is a false equation here.
 use Prim.Native.Nat.{ℕ}
 use mathlib.Core.Bool.{false}
 use mathlib.Core.Path.{_≡_, refl}
@@ -23,9 +23,9 @@ apart e p = absurd (eqb-false _ _ e p)
 abbrev pub Without : Table → List Step → Type 0
 Without t xs = RunWithoutLoop t xs × EndWithoutLoop t xs
 
-pub chain-worked : Without (tableOf P9) chainRun
+pub chain-adds-up : Without (tableOf P9) chainRun
 unfolding sum possible effect after resolved
-chain-worked = (
+chain-adds-up = (
   record { fewRoots = omega arith; fewResolved = omega arith },
   record {
     oneRoot = refl;
@@ -35,9 +35,9 @@ chain-worked = (
   },
 )
 
-pub contending-worked : Without (tableOf P3) contendingRun
+pub contending-adds-up : Without (tableOf P3) contendingRun
 unfolding sum possible effect after resolved
-contending-worked = (
+contending-adds-up = (
   record { fewRoots = omega arith; fewResolved = omega arith },
   record {
     oneRoot = refl;
@@ -51,18 +51,18 @@ contending-worked = (
 abbrev pub With : Table → List Step → Type 0
 With t xs = RunWithLoop t xs × EndWithLoop t (reachedBy t xs .waiting) xs
 
-pub loop-worked : With (tableOf P8) loopRun
+pub loop-adds-up : With (tableOf P8) loopRun
 unfolding sum possible effect after resolved
-loop-worked = (record { noRoot = refl; noneResolved = refl }, record { steps = refl; stillWait = λ x l. refl; sizeWaits = refl })
+loop-adds-up = (record { noRoot = refl; noneResolved = refl }, record { steps = refl; stillWait = λ x l. refl; sizeWaits = refl })
 
-pub tail-worked : With (tableOf tail) tailRun
+pub tail-adds-up : With (tableOf tail) tailRun
 unfolding sum possible effect after resolved
-tail-worked = (record { noRoot = refl; noneResolved = refl }, record { steps = refl; stillWait = λ x l. refl; sizeWaits = refl })
+tail-adds-up = (record { noRoot = refl; noneResolved = refl }, record { steps = refl; stillWait = λ x l. refl; sizeWaits = refl })
 
-pub between-worked : With (tableOf twoLoops) []
+pub between-adds-up : With (tableOf twoLoops) []
 unfolding sum possible effect after resolved
-between-worked = (record { noRoot = refl; noneResolved = refl }, record { steps = refl; stillWait = λ x l. refl; sizeWaits = refl })
+between-adds-up = (record { noRoot = refl; noneResolved = refl }, record { steps = refl; stillWait = λ x l. refl; sizeWaits = refl })
 
-pub links-worked : With (tableOf P10) []
+pub links-adds-up : With (tableOf P10) []
 unfolding sum possible effect after resolved
-links-worked = (record { noRoot = refl; noneResolved = refl }, record { steps = refl; stillWait = λ x l. refl; sizeWaits = refl })
+links-adds-up = (record { noRoot = refl; noneResolved = refl }, record { steps = refl; stillWait = λ x l. refl; sizeWaits = refl })
