@@ -29,7 +29,7 @@ use Rattle.election.specs.Demand.{reachedBy, Ended, Demand}
 use Rattle.election.specs.Logs.{RunnerStops, RunAnswers, ReplayAnswers, EntryAnswers, Calls}
 use Rattle.election.proofs.Election.{few-roots, demand}
 use Rattle.election.proofs.Replays.{replay-run}
-use Rattle.election.proofs.Runner.{runs, runner-stops}
+use Rattle.election.proofs.Runner.{runs, runner-still}
 use Rattle.election.proofs.Refused.{Behind, behind, no-state, answered-refusal, answered-accepted}
 use Rattle.election.proofs.Logs.{replayRefusal}
 
@@ -116,7 +116,7 @@ module _ (upload : List ℕ) (good : tableRefusal upload .number ≡ 0) where
   bytes = let fit = laws .nodesFit in omega arith
 
   stops : RunnerStops (tableOf upload) (fresh (tableOf upload))
-  stops = runner-stops (tableOf upload) bytes (laws .ends) (laws .noSelf) (laws .noRepeat) (fresh (tableOf upload)) (sound-fresh (tableOf upload))
+  stops = runner-still (tableOf upload) bytes (laws .ends) (laws .noSelf) (laws .noRepeat) (fresh (tableOf upload)) (sound-fresh (tableOf upload))
 
   runner-lists-none : listed (tableOf upload) (runner (tableOf upload) .state) ≡ []
   unfolding runner

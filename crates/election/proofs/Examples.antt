@@ -6,21 +6,26 @@ use mathlib.Core.List.{List, []}
 use lib.Dec.{ltb, leb, eqb}
 use lib.ListN.{length}
 use borrow.Author.Tests.{ltb-true, leb-true, eq-eqb, not-true}
-use Rattle.counting.specs.Count.{sum, all, some}
+use Rattle.counting.specs.Count.{sum, all, some, least}
 use Rattle.paper.specs.Table.{Table, tableOf, labels, onePiece}
 use Rattle.paper.specs.State.{fresh}
 use Rattle.paper.specs.Steps.{Step, possible, effect, after, taken, resolved}
 use Rattle.paper.specs.Report.{moving}
+use Rattle.paper.specs.Actions.{reading}
+use Rattle.paper.specs.Refusals.{linksRefusal, refusal}
+use Rattle.paper.specs.Calls.{replayFrom, replayed, replayBehind}
 use Rattle.paper.specs.Stuck.{size, border}
-use Rattle.paper.specs.Replays.{P3, P8, P9, P10}
+use Rattle.paper.specs.Replays.{P3, P8, P9, P10, P12-table}
 use Rattle.paper.specs.Examples.{twoLoops, tail}
 use Rattle.paper.proofs.Tests.{all-true, clash}
 use Rattle.paper.proofs.OnePiece.{one-piece}
 use Rattle.paper.proofs.Moving.{moving-still}
 use Rattle.election.specs.Demand.{reachedBy}
+use Rattle.election.specs.Logs.{NamesFrom, LogIsRun, IsLogOf}
 use Rattle.election.specs.Examples.{chainRun, contendingRun, loopRun, tailRun, Example, Elects, Sticks, Examples}
 use Rattle.election.proofs.AddedUp.{Without, With, chain-adds-up, contending-adds-up, loop-adds-up, tail-adds-up, between-adds-up, links-adds-up}
 use Rattle.election.proofs.Election.{end-stuck}
+use Rattle.election.proofs.LogOf.{is-log}
 
 -- link i joins two nodes of the table
 abbrev joinsTwo : Table → ℕ → Bool
@@ -65,6 +70,25 @@ elects : (t : Table) (xs : List Step) (steps contentions : ℕ) → Example t xs
 elects t xs steps contentions e no-loop taking resolving added =
     record { example = e; noLoop = no-loop; taking = taking; resolving = resolving; every = added .0; end = added .1 }
 
+-- P3 read as a log
+contending-named : NamesFrom P3 0 contendingRun
+unfolding least reading
+contending-named = (refl, (refl, (refl, (refl, (refl, (refl, tt))))))
+
+contending-log : LogIsRun P3 contendingRun
+unfolding sum all some least labels onePiece linksRefusal refusal reading possible effect after taken moving replayFrom replayed replayBehind
+contending-log =
+    record {
+      replays = record { named = contending-named; run = refl; steps = refl; state = refl };
+      every = refl;
+      answer = refl;
+    }
+
+-- the log that is built of the run is P3, byte for byte
+log-of-contending : IsLogOf P12-table contendingRun P3
+unfolding sum all some labels onePiece linksRefusal refusal possible effect taken
+log-of-contending = is-log P12-table refl contendingRun refl
+
 pub examples-hold : Examples
 unfolding sum all some labels onePiece possible effect after taken resolved moving
 examples-hold =
@@ -75,4 +99,6 @@ examples-hold =
       behindLoop = sticks (tableOf tail) tailRun 5 3 1 (computed (tableOf tail) tailRun refl refl refl refl refl) refl refl refl refl tail-adds-up;
       betweenLoops = sticks (tableOf twoLoops) [] 0 7 0 (computed (tableOf twoLoops) [] refl refl refl refl refl) refl refl refl refl between-adds-up;
       twoLinks = sticks (tableOf P10) [] 0 2 0 (computed (tableOf P10) [] refl refl refl refl refl) refl refl refl refl links-adds-up;
+      contendingLog = contending-log;
+      logOfContending = log-of-contending;
     }

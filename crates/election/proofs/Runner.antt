@@ -87,8 +87,8 @@ module _ (t : Table) (bytes : t .nodes ≤ 255) (below : EndsBelow t) (apart : N
               more z p (inr (ys, q, l)) = inr (z ∷ ys, and-both p q, ap suc l)
 
   -- from every state with sound marks
-  pub runner-stops : RunnerAlwaysStops t
-  runner-stops s sound = go (runs (longest t) s 0 .1 .stops)
+  pub runner-still : RunnerAlwaysStops t
+  runner-still s sound = go (runs (longest t) s 0 .1 .stops)
     where
       go : AtRest (runFrom t (longest t) s 0 .state) ⊎ ((ys : List Step) × (taken t s ys ≡ true) × (length ys ≡ suc (longest t))) → RunnerStops t s
       go (inl rest) = record { still = rest .0; listsNone = rest .1 }

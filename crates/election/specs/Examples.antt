@@ -7,9 +7,10 @@ use lib.ListN.{length}
 use Rattle.paper.specs.Table.{Table, tableOf, EndsBelow, NoSelfLink, OnePiece}
 use Rattle.paper.specs.Steps.{Step, childrenKnown, addChild, acknowledge, resolve, becomeRoot, resolved}
 use Rattle.paper.specs.Stuck.{Stuck, size, border}
-use Rattle.paper.specs.Replays.{P3, P8, P9, P10}
+use Rattle.paper.specs.Replays.{P3, P8, P9, P10, P12-table}
 use Rattle.paper.specs.Examples.{twoLoops, tail}
 use Rattle.election.specs.Demand.{reachedBy, Ended, RunWithoutLoop, EndWithoutLoop, RunWithLoop, EndWithLoop}
+use Rattle.election.specs.Logs.{LogIsRun, IsLogOf}
 
 -- P9: a chain of three
 abbrev pub chainRun : List Step
@@ -78,3 +79,6 @@ pub record Examples : Type 0 where
   pub betweenLoops : Sticks (tableOf twoLoops) [] 0 7 0
   -- two links between two nodes: both are stuck
   pub twoLinks : Sticks (tableOf P10) [] 0 2 0
+  -- the log of the two nodes that contend is P3, with the table of P12
+  pub contendingLog : LogIsRun P3 contendingRun
+  pub logOfContending : IsLogOf P12-table contendingRun P3
