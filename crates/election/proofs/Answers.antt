@@ -26,7 +26,7 @@ use Rattle.paper.proofs.Moving.{moving-still}
 use Rattle.table.specs.Accepted.{Accepted}
 use Rattle.table.proofs.Laws.{accepted-laws}
 use Rattle.election.specs.Demand.{reachedBy, Ended, Demand}
-use Rattle.election.specs.Logs.{RunnerStops, RunAnswers, ReplayAnswers, EntryAnswers, Calls}
+use Rattle.election.specs.Logs.{RunnerStops, RunnerEnds, RunAnswers, ReplayAnswers, EntryAnswers, Calls}
 use Rattle.election.proofs.Election.{few-roots, demand}
 use Rattle.election.proofs.Replays.{replay-run}
 use Rattle.election.proofs.Runner.{runs, runner-still}
@@ -122,7 +122,7 @@ module _ (upload : List ℕ) (good : tableRefusal upload .number ≡ 0) where
   unfolding runner
   runner-lists-none = stops .listsNone
 
-  runner-ended : (xs : List Step) × Ended (tableOf upload) xs × (runner (tableOf upload) .steps ≡ length xs) × (runner (tableOf upload) .state ≡ reachedBy (tableOf upload) xs)
+  runner-ended : RunnerEnds (tableOf upload)
   unfolding runner
   runner-ended =
       let (xs, run) = runs (tableOf upload) bytes (laws .ends) (laws .noSelf) (laws .noRepeat) (longest (tableOf upload)) (fresh (tableOf upload)) 0 in
@@ -133,10 +133,10 @@ run-answers : (upload image : List ℕ) → runAnswer upload image .refusal ≡ 
 unfolding runAnswer
 run-answers upload image h =
     record {
-      ended = runner-ended upload good;
+      ended = end;
       listsNone = runner-lists-none upload good;
-      withoutLoop = λ no-loop. let (outcome, waiting) = root-outcome (tableOf upload) (accepted-demand upload good) (xs .0) (xs .1) no-loop in (reports ∙ outcome, waits ∙ waiting);
-      withLoop = λ loop K stuck. let (outcome, waiting) = loop-outcome (tableOf upload) (accepted-demand upload good) (xs .0) (xs .1) loop K stuck in (reports ∙ outcome, waits ∙ waiting);
+      withoutLoop = λ no-loop. let (outcome, waiting) = root-outcome (tableOf upload) (accepted-demand upload good) (end .0) (end .1) no-loop in (reports ∙ outcome, waits ∙ waiting);
+      withLoop = λ loop K stuck. let (outcome, waiting) = loop-outcome (tableOf upload) (accepted-demand upload good) (end .0) (end .1) loop K stuck in (reports ∙ outcome, waits ∙ waiting);
     }
   where
     none : freshRefusal upload image .number ≡ 0
@@ -149,16 +149,16 @@ run-answers upload image h =
         go (inl (z, e)) = z
         go (inr (z, e)) = absurd (z (sym (ap (λ (r : Refusal). r .number) e) ∙ none))
 
-    xs : (xs : List Step) × Ended (tableOf upload) xs × (runner (tableOf upload) .steps ≡ length xs) × (runner (tableOf upload) .state ≡ reachedBy (tableOf upload) xs)
-    xs = runner-ended upload good
+    end : RunnerEnds (tableOf upload)
+    end = runner-ended upload good
 
-    same : runAnswer upload image ≡ reported (freshRefusal upload image) (runner (tableOf upload) .steps) (tableOf upload) (reachedBy (tableOf upload) (xs .0))
-    same = answered-accepted (freshRefusal upload image) (runner (tableOf upload) .steps) (tableOf upload) (runner (tableOf upload) .state) none ∙ ap (reported (freshRefusal upload image) (runner (tableOf upload) .steps) (tableOf upload)) (xs .3)
+    same : runAnswer upload image ≡ reported (freshRefusal upload image) (runner (tableOf upload) .steps) (tableOf upload) (reachedBy (tableOf upload) (end .0))
+    same = answered-accepted (freshRefusal upload image) (runner (tableOf upload) .steps) (tableOf upload) (runner (tableOf upload) .state) none ∙ ap (reported (freshRefusal upload image) (runner (tableOf upload) .steps) (tableOf upload)) (end .3)
 
-    reports : runAnswer upload image .outcome ≡ outcomeOf (tableOf upload) (reachedBy (tableOf upload) (xs .0))
+    reports : runAnswer upload image .outcome ≡ outcomeOf (tableOf upload) (reachedBy (tableOf upload) (end .0))
     reports = ap (λ a. a .outcome) same
 
-    waits : runAnswer upload image .waiting ≡ waitingCount (tableOf upload) (reachedBy (tableOf upload) (xs .0))
+    waits : runAnswer upload image .waiting ≡ waitingCount (tableOf upload) (reachedBy (tableOf upload) (end .0))
     waits = ap (λ a. a .waiting) same
 
 pub calls : Calls

@@ -49,6 +49,7 @@ Bytes (byte ∷ rest) = (byte < 256) × Bytes rest
 
 -- The upload v is the accepted log of the run xs of the table of u:
 pub record IsLogOf (u : List ℕ) (xs : List Step) (v : List ℕ) : Type 0 where
+  -- bytes, if u is
   pub bytes : Bytes u → Bytes v
   -- the same n, m and links
   pub nodes : nodesOf v ≡ nodesOf u
@@ -80,10 +81,14 @@ pub record RunnerStops (t : Table) (s : State) : Type 0 where
 abbrev pub RunnerAlwaysStops : Table → Type 0
 RunnerAlwaysStops t = (s : State) → SoundMarks t s → RunnerStops t s
 
+-- the steps that the runner takes are a run that can go no further
+abbrev pub RunnerEnds : Table → Type 0
+RunnerEnds t = (xs : List Step) × Ended t xs × (runner t .steps ≡ length xs) × (runner t .state ≡ reachedBy t xs)
+
 -- Of every run call that is accepted:
 pub record RunAnswers (upload image : List ℕ) : Type 0 where
-  -- the runner's steps are a run that can go no further
-  pub ended : (xs : List Step) × Ended (tableOf upload) xs × (runner (tableOf upload) .steps ≡ length xs) × (runner (tableOf upload) .state ≡ reachedBy (tableOf upload) xs)
+  -- the runner takes the steps of a run that can go no further
+  pub ended : RunnerEnds (tableOf upload)
   -- no step is possible where it stops
   pub listsNone : listed (tableOf upload) (runner (tableOf upload) .state) ≡ []
   -- without a loop its answer is outcome 2, root, and no node waits
