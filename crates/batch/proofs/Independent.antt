@@ -1,25 +1,23 @@
 -- What an entry's answer depends on, proved of the definitions.
 use Prim.Native.Nat.{ℕ, zero, suc, _+_, _*_, _/_, _%_, _≤_, _<_}
 use mathlib.Core.Bool.{Bool, true, false, cond}
-use mathlib.Core.Path.{_≡_, refl, ap, sym, _∙_}
-use mathlib.Core.Logic.{_⊎_, ⊎-elim}
+use mathlib.Core.Path.{_≡_, refl, sym, _∙_}
+use mathlib.Core.Logic.{⊎-elim}
 use mathlib.Core.List.{List, [], _∷_, _++_}
 use native.Mathlib.Omega.{arith}
 use native.Mathlib.Decide.{decLt}
 use borrow.Author.Tests.{le-leb, ne-eqb}
-use lib.Dec.{ltb, leb, eqb}
+use lib.Dec.{ltb}
 use lib.ListN.{length, set, take, drop, length-set, length-take, length-drop}
 use lib.Seq.{ext-getD, getD-take, getD-drop, getD-set-other}
-use Rattle.counting.specs.Count.{joined}
 use Rattle.paper.specs.Upload.{byteAt, fourAt}
 use Rattle.paper.specs.Refusals.{refusal}
 use Rattle.paper.specs.Calls.{replayBehind}
 use Rattle.paper.specs.Batch.{headerEnd, countOf, offsetOf, lengthOf, partOf, headerWrong, spanOutside, entryAnswer, answersOf}
 use Rattle.paper.specs.Lines.{digit, digits, decimal, space, newline, lineOf, textOf}
 use Rattle.lines.proofs.Ordered.{lines-joined}
-use Rattle.batch.specs.Inside.{Header, Inside}
 use Rattle.batch.specs.Independent.{HeaderFirst, SpanNext, PartReplayed, EqualParts, NothingElse, ByteOutside, LineEach, LineEnds, Independent, newlines}
-use Rattle.batch.proofs.Tests.{header-right, span-inside}
+use Rattle.batch.proofs.Tests.{span-inside}
 
 pub header-first : HeaderFirst
 unfolding entryAnswer replayBehind refusal

@@ -1,11 +1,11 @@
 -- What the program prints of a batch: one line where the header is refused, else the lines of the first c answers.
 use Prim.Native.Nat.{ℕ, zero, suc, _+_, _-_, _≤_}
 use mathlib.Core.Bool.{true, false}
-use mathlib.Core.Path.{_≡_, refl, ap, sym, _∙_}
-use mathlib.Core.List.{List, [], _∷_, _++_}
+use mathlib.Core.Path.{_≡_, _∙_}
+use mathlib.Core.List.{List, [], _∷_}
 use native.Mathlib.Omega.{arith}
 use native.Mathlib.Nat.{add-zero, add-suc}
-use lib.ListN.{length, take}
+use lib.ListN.{take}
 use lib.Seq.{take-all, take-append-le}
 use Rattle.counting.specs.Count.{listOf}
 use Rattle.paper.specs.declared.Answer.{Answer}

@@ -1,13 +1,12 @@
 -- A text into a lent buffer: refused where there is no room, else written from the buffer's start.
-use Prim.Native.Nat.{ℕ, suc, _+_, _≤_, _<_}
-use mathlib.Core.Path.{_≡_, refl, ap, sym, _∙_}
-use mathlib.Core.List.{List, [], _∷_, _++_}
+use Prim.Native.Nat.{ℕ, _≤_, _<_}
+use mathlib.Core.Path.{_∙_}
+use mathlib.Core.List.{List}
 use native.Mathlib.Omega.{arith}
 use native.Mathlib.Nat.{zero-add}
 use borrow.Author.Tests.{lt-ltb, le-ltb}
-use lib.ListN.{length, take, drop}
+use lib.ListN.{length, take}
 use lib.Seq.{sets, sets-eq, lt-length-sets}
-use Rattle.paper.specs.declared.Answer.{Answer}
 use Rattle.lines.specs.Wrote.{Wrote}
 use Rattle.lines.specs.Output.{textAnswer, textBuffer, written, noRoom, Output}
 
