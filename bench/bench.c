@@ -28,7 +28,7 @@ static unsigned input_count;
 struct left {
     uint64_t word;
     uint8_t image[REPLAY_MAX_IMAGE];
-    uint8_t out[REPLAY_MAX_TEXT];
+    uint8_t out[REPLAY_MAX_LIST];
 };
 
 typedef uint64_t job(const struct engine *engine, const struct input *input, struct left *left);

@@ -28,7 +28,7 @@ enum {
     REPLAY_MAX_LIST = 1890,   /* room for any list: a step of kinds 1 and 5 for each node, two of kinds 2 to 4 for each direction */
     REPLAY_MAX_BATCH = 65536,
     REPLAY_MAX_ENTRIES = 64,
-    REPLAY_MAX_TEXT = 1984, /* room for any text: 64 lines of 31 bytes at most */
+    REPLAY_MAX_TEXT = 1600, /* room for any text: 64 lines of 25 bytes at most */
     REPLAY_NO_ROOT = 255
 };
 

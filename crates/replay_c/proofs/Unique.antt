@@ -7,6 +7,8 @@ use Rattle.replay_c.proofs.replay_fresh
 use Rattle.replay_c.proofs.replay_report
 use Rattle.replay_c.proofs.replay_step
 use Rattle.replay_c.proofs.replay_upload
+use Rattle.replay_c.proofs.replay_entry
+use Rattle.replay_c.proofs.replay_lines
 
 pub word-determined : Determined word.Kinds.ps word.Kinds.r word.Reads.Pre word.Reads.Learnt
 word-determined κs a pre z z′ w w′ p q = (same (p .word) (q .word), refl)
@@ -24,3 +26,10 @@ replay-step-determined κs a pre z z′ w w′ p q =
 
 pub replay-upload-determined : Determined replay_upload.Kinds.ps replay_upload.Kinds.r replay_upload.Reads.Pre replay_upload.Reads.Learnt
 replay-upload-determined κs a pre z z′ w w′ p q = (same (p .word) (q .word), refl)
+
+pub replay-entry-determined : Determined replay_entry.Kinds.ps replay_entry.Kinds.r replay_entry.Reads.Pre replay_entry.Reads.Learnt
+replay-entry-determined κs a pre z z′ w w′ p q = (same (p .word) (q .word), refl)
+
+pub replay-lines-determined : Determined replay_lines.Kinds.ps replay_lines.Kinds.r replay_lines.Reads.Pre replay_lines.Reads.Learnt
+replay-lines-determined κs a pre z z′ w w′ p q =
+    (same (p .0 .word) (q .0 .word), unlent (lent (p .1) (q .1) refl))

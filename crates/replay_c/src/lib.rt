@@ -1,6 +1,8 @@
 // The public calls for a program in C: each answers its six numbers in one word.
 ghost use mathlib.Core.Path.{_≡_};
 ghost use Rattle.paper.specs.Calls.{freshAnswer, freshImage, reportAnswer, stepAnswer, stepImage, replayAnswer};
+ghost use Rattle.paper.specs.Batch.{entryAnswer};
+ghost use Rattle.paper.specs.Lines.{linesAnswer, linesBuffer};
 ghost use Rattle.replay_c.specs.Word.{Carries};
 
 // The six numbers in one word.
@@ -47,4 +49,21 @@ pub extern "C" fn replay_upload(upload: &[u8]) -> u64
     ensures { λ r. ⌜ Carries r (replayAnswer (now (upload .entry))) ⌝ }
 {
     word(replay::replay(upload))
+}
+
+// The answer of one entry of a batch.
+#[no_mangle]
+pub extern "C" fn replay_entry(batch: &[u8], number: usize) -> u64
+    ensures { λ r. ⌜ Carries r (entryAnswer (now (batch .entry)) number) ⌝ }
+{
+    word(batch::entry(batch, number))
+}
+
+// The printed text of a batch, into a lent buffer.
+#[no_mangle]
+pub extern "C" fn replay_lines(batch: &[u8], out: &mut [u8]) -> u64
+    ensures { λ r. ⌜ Carries r (linesAnswer (now (batch .entry)) (now (out .entry))) ⌝ }
+    ensures { λ _. ⌜ now (out .exit) ≡ linesBuffer (now (batch .entry)) (now (out .entry)) ⌝ }
+{
+    word(batch::lines(batch, out))
 }

@@ -7,19 +7,15 @@ use Rattle.replay_c.proofs.replay_fresh.Lts as lts
 use Rattle.replay.proofs.fresh.Reads as fresh-reads
 use Rattle.replay_c.proofs.word.Reads as word-reads
 
--- src/lib.rt:19:10
 fresh-requires : tie.Need-fresh-requires
 fresh-requires c κs = search needs
 
--- src/lib.rt:19:5
 word-requires : tie.Need-word-requires
 word-requires c κs = search needs
 
--- src/lib.rt:14:1
 same-length : tie.Need-same-length
 same-length c = search needs
 
--- src/lib.rt:14:1
 returns : tie.Need-returns
 returns c =
     let f = c .before .before .before .fresh in

@@ -7,15 +7,12 @@ use Rattle.replay_c.proofs.replay_report.Lts as lts
 use Rattle.replay.proofs.report.Reads as report-reads
 use Rattle.replay_c.proofs.word.Reads as word-reads
 
--- src/lib.rt:27:10
 report-requires : tie.Need-report-requires
 report-requires c κs = search needs
 
--- src/lib.rt:27:5
 word-requires : tie.Need-word-requires
 word-requires c κs = search needs
 
--- src/lib.rt:23:1
 returns : tie.Need-returns
 returns c =
     carries-as (c .word .ensures) (c .before .report .ensures)

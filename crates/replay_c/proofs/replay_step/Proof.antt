@@ -7,19 +7,15 @@ use Rattle.replay_c.proofs.replay_step.Lts as lts
 use Rattle.replay.proofs.step.Reads as step-reads
 use Rattle.replay_c.proofs.word.Reads as word-reads
 
--- src/lib.rt:36:10
 step-requires : tie.Need-step-requires
 step-requires c κs = search needs
 
--- src/lib.rt:36:5
 word-requires : tie.Need-word-requires
 word-requires c κs = search needs
 
--- src/lib.rt:31:1
 same-length : tie.Need-same-length
 same-length c = search needs
 
--- src/lib.rt:31:1
 returns : tie.Need-returns
 returns c =
     let f = c .before .before .before .step in

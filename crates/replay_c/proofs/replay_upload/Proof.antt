@@ -7,15 +7,12 @@ use Rattle.replay_c.proofs.replay_upload.Lts as lts
 use Rattle.replay.proofs.replay.Reads as replay-reads
 use Rattle.replay_c.proofs.word.Reads as word-reads
 
--- src/lib.rt:44:10
 replay-requires : tie.Need-replay-requires
 replay-requires c κs = search needs
 
--- src/lib.rt:44:5
 word-requires : tie.Need-word-requires
 word-requires c κs = search needs
 
--- src/lib.rt:40:1
 returns : tie.Need-returns
 returns c =
     carries-as (c .word .ensures) (c .before .replay .ensures)
