@@ -1,5 +1,4 @@
-use Rattle.paper.specs.Steps.{possible}
-use Rattle.marks.proofs.Shown.{inside}
+use Rattle.automaton.proofs.Possible.{acknowledges}
 use borrow.Author.Needs.{needs}
 use Rattle.automaton.proofs.may_acknowledge.Statement.{statement}
 use Rattle.automaton.proofs.may_acknowledge.Tie as tie
@@ -23,10 +22,9 @@ carrying-requires c κs = search needs
 
 -- src/lib.rt:72:1
 returns : tie.Need-returns
-unfolding possible
 returns c =
     let at = c .before .before .before .before .before in
-    inside _ _ (at .pre .1) (cc)
+    acknowledges _ _ (at .args .i) (at .args .back) (at .pre .1) (c .before .before .end-node .ensures .0) (c .before .waiting .ensures) (c .carrying .ensures)
 
 pub may-acknowledge-spec : {M : Type 1} → statement M
 may-acknowledge-spec =

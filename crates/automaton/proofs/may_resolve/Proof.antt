@@ -1,5 +1,4 @@
-use Rattle.paper.specs.Steps.{possible}
-use Rattle.marks.proofs.Shown.{inside}
+use Rattle.automaton.proofs.Possible.{resolves}
 use borrow.Author.Needs.{needs}
 use Rattle.automaton.proofs.may_resolve.Statement.{statement}
 use Rattle.automaton.proofs.may_resolve.Tie as tie
@@ -26,10 +25,9 @@ contending-requires-2 c κs = search needs
 
 -- src/lib.rt:80:1
 returns : tie.Need-returns
-unfolding possible
 returns c =
     let at = c .before .before .before .before .before .before in
-    inside _ _ (at .pre .1) (cc)
+    resolves _ _ (at .args .i) (at .args .back) (at .pre .1) (c .before .before .before .end-node .ensures .0) (c .before .before .contending .ensures) (c .before .end-node2 .ensures .0) (c .contending2 .ensures)
 
 pub may-resolve-spec : {M : Type 1} → statement M
 may-resolve-spec =
