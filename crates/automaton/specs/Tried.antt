@@ -1,6 +1,6 @@
 -- What is asked of one link, of one node and of one action.
 use Prim.Native.Nat.{ℕ, _+_}
-use mathlib.Core.Bool.{Bool, true, false, not, _&&_}
+use mathlib.Core.Bool.{Bool, true, false, not, _&&_, _||_}
 use mathlib.Core.List.{List}
 use mathlib.Core.Path.{_≡_}
 use lib.Dec.{eqb}
@@ -10,7 +10,9 @@ use Rattle.paper.specs.State.{State}
 use Rattle.paper.specs.Image.{stateOf}
 use Rattle.paper.specs.Steps.{Step, childrenKnown, addChild, acknowledge, resolve, becomeRoot}
 use Rattle.paper.specs.Actions.{Reading, names, unread, refusedBy}
+use Rattle.paper.specs.Report.{movesOn, outcomeOf, rootOf, waitingCount}
 use Rattle.automaton.specs.declared.Tried.{Tried}
+use Rattle.automaton.specs.declared.Report.{Report}
 
 -- the state that a lent image shows
 abbrev pub shown : List ℕ → List ℕ → State
@@ -55,3 +57,13 @@ pub record TriedAs (t : Table) (s : State) (read : Reading) (r : Tried) : Type 0
   pub number : r .number ≡ refusedBy t s read
   pub link : r .link ≡ linkRead read
   pub back : r .back ≡ endRead read
+
+-- some step on link i is possible
+abbrev pub linkMoves : Table → State → ℕ → Bool
+linkMoves t s i = movesOn t s i false || movesOn t s i true
+
+-- what a state comes to
+pub record Reported (t : Table) (s : State) (r : Report) : Type 0 where
+  pub outcome : r .outcome ≡ outcomeOf t s
+  pub root : r .root ≡ rootOf t s
+  pub waiting : r .waiting ≡ waitingCount t s

@@ -1,7 +1,3 @@
-use Prim.Native.Nat.{ℕ}
-use lib.Dec.{eqb}
-use mathlib.Core.Bool.{Bool, not, _&&_, _||_}
-use mathlib.Core.Path.{ap, ap₂}
 use borrow.Author.Needs.{needs}
 use Rattle.automaton.proofs.lacks_child.Statement.{statement}
 use Rattle.automaton.proofs.lacks_child.Tie as tie
@@ -20,9 +16,7 @@ child-requires c κs = search needs
 
 -- src/lib.rt:20:1
 returns : tie.Need-returns
-returns c =
-    let at = c .before .before .before .before in
-    ap₂ (λ (z : ℕ) (h : Bool). eqb z (at .args .x) && not h) (c .before .end .ensures .0) (c .child .ensures)
+returns c = cc
 
 pub lacks-child-spec : {M : Type 1} → statement M
 lacks-child-spec = tie.close (tie.spec end-requires child-requires returns)

@@ -1,4 +1,5 @@
-use Rattle.automaton.proofs.Possible.{adds}
+use Rattle.paper.specs.Steps.{possible}
+use Rattle.marks.proofs.Shown.{inside}
 use borrow.Author.Needs.{needs}
 use Rattle.automaton.proofs.may_add_child.Statement.{statement}
 use Rattle.automaton.proofs.may_add_child.Tie as tie
@@ -22,9 +23,10 @@ carrying-requires c κs = search needs
 
 -- src/lib.rt:64:1
 returns : tie.Need-returns
+unfolding possible
 returns c =
     let at = c .before .before .before .before .before in
-    adds _ _ (at .args .i) (at .args .back) (at .pre .1) (c .before .before .end-node .ensures .0) (c .before .waiting .ensures) (c .carrying .ensures)
+    inside _ _ (at .pre .1) (cc)
 
 pub may-add-child-spec : {M : Type 1} → statement M
 may-add-child-spec =

@@ -1,4 +1,5 @@
-use Rattle.automaton.proofs.Possible.{becomes}
+use Rattle.paper.specs.Steps.{possible}
+use Rattle.marks.proofs.Shown.{inside}
 use borrow.Author.Needs.{needs}
 use Rattle.automaton.proofs.may_become_root.Statement.{statement}
 use Rattle.automaton.proofs.may_become_root.Tie as tie
@@ -17,9 +18,10 @@ unheard-at-requires c κs = search needs
 
 -- src/lib.rt:79:1
 returns : tie.Need-returns
+unfolding possible
 returns c =
     let at = c .before .before .before .before .before in
-    becomes _ _ (at .args .x) (at .pre .1) (c .before .before .root .ensures) (c .before .unheard-at .ensures .0)
+    inside _ _ (at .pre .1) (cc)
 
 pub may-become-root-spec : {M : Type 1} → statement M
 may-become-root-spec = tie.close (tie.spec root-requires unheard-at-requires returns)

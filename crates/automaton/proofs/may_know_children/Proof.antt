@@ -1,4 +1,5 @@
-use Rattle.automaton.proofs.Possible.{knows}
+use Rattle.paper.specs.Steps.{possible}
+use Rattle.marks.proofs.Shown.{inside}
 use borrow.Author.Needs.{needs}
 use Rattle.automaton.proofs.may_know_children.Statement.{statement}
 use Rattle.automaton.proofs.may_know_children.Tie as tie
@@ -17,9 +18,10 @@ unheard-at-requires c κs = search needs
 
 -- src/lib.rt:47:1
 returns : tie.Need-returns
+unfolding possible
 returns c =
     let at = c .before .before .before .before .before in
-    knows _ _ (at .args .x) (at .pre .1) (c .before .before .waiting .ensures) (c .before .unheard-at .ensures .0)
+    inside _ _ (at .pre .1) (cc)
 
 pub may-know-children-spec : {M : Type 1} → statement M
 may-know-children-spec = tie.close (tie.spec waiting-requires unheard-at-requires returns)

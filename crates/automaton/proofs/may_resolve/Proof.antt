@@ -1,4 +1,5 @@
-use Rattle.automaton.proofs.Possible.{resolves}
+use Rattle.paper.specs.Steps.{possible}
+use Rattle.marks.proofs.Shown.{inside}
 use borrow.Author.Needs.{needs}
 use Rattle.automaton.proofs.may_resolve.Statement.{statement}
 use Rattle.automaton.proofs.may_resolve.Tie as tie
@@ -25,9 +26,10 @@ contending-requires-2 c κs = search needs
 
 -- src/lib.rt:80:1
 returns : tie.Need-returns
+unfolding possible
 returns c =
     let at = c .before .before .before .before .before .before in
-    resolves _ _ (at .args .i) (at .args .back) (at .pre .1) (c .before .before .before .end-node .ensures .0) (c .before .before .contending .ensures) (c .before .end-node2 .ensures .0) (c .contending2 .ensures)
+    inside _ _ (at .pre .1) (cc)
 
 pub may-resolve-spec : {M : Type 1} → statement M
 may-resolve-spec =

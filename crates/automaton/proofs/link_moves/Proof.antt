@@ -1,11 +1,11 @@
 use mathlib.Core.Bool.{_||_}
 use mathlib.Core.Path.{ap₂}
 use borrow.Author.Needs.{needs}
-use Rattle.report.proofs.link_moves.Statement.{statement}
-use Rattle.report.proofs.link_moves.Tie as tie
-use Rattle.report.proofs.link_moves.Reads as reads
-use Rattle.report.proofs.link_moves.Lts as lts
-use Rattle.report.proofs.direction_moves.Reads as direction-moves-reads
+use Rattle.automaton.proofs.link_moves.Statement.{statement}
+use Rattle.automaton.proofs.link_moves.Tie as tie
+use Rattle.automaton.proofs.link_moves.Reads as reads
+use Rattle.automaton.proofs.link_moves.Lts as lts
+use Rattle.automaton.proofs.direction_moves.Reads as direction-moves-reads
 
 -- src/lib.rt:280:5
 direction-moves-requires : tie.Need-direction-moves-requires

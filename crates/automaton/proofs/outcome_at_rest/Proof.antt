@@ -1,9 +1,9 @@
 use borrow.Author.Tests.{eq-eqb, ne-eqb}
 use borrow.Author.Needs.{needs}
-use Rattle.report.proofs.outcome_at_rest.Statement.{statement}
-use Rattle.report.proofs.outcome_at_rest.Tie as tie
-use Rattle.report.proofs.outcome_at_rest.Reads as reads
-use Rattle.report.proofs.outcome_at_rest.Lts as lts
+use Rattle.automaton.proofs.outcome_at_rest.Statement.{statement}
+use Rattle.automaton.proofs.outcome_at_rest.Tie as tie
+use Rattle.automaton.proofs.outcome_at_rest.Reads as reads
+use Rattle.automaton.proofs.outcome_at_rest.Lts as lts
 
 -- src/lib.rt:374:1
 returns : tie.Need-returns

@@ -7,10 +7,10 @@ use mathlib.Core.Path.{_≡_, sym, ap, _∙_}
 use Prim.Native.Nat.{ℕ, _-_, _≤_}
 use native.Mathlib.Omega.{arith}
 use borrow.Author.Needs.{needs}
-use Rattle.report.proofs.waiting_count.Statement.{statement}
-use Rattle.report.proofs.waiting_count.Tie as tie
-use Rattle.report.proofs.waiting_count.Reads as reads
-use Rattle.report.proofs.waiting_count.Lts as lts
+use Rattle.automaton.proofs.waiting_count.Statement.{statement}
+use Rattle.automaton.proofs.waiting_count.Tie as tie
+use Rattle.automaton.proofs.waiting_count.Reads as reads
+use Rattle.automaton.proofs.waiting_count.Lts as lts
 use Rattle.marks.proofs.waiting.Reads as waiting-reads
 use Rattle.upload.proofs.nodes.Reads as nodes-reads
 

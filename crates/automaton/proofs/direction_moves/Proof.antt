@@ -1,12 +1,12 @@
-use Rattle.report.proofs.Moves.{moves-on}
+use Rattle.automaton.proofs.Moves.{moves-on}
 use mathlib.Core.Bool.{_||_}
 use mathlib.Core.Path.{ap₂, _∙_}
 use borrow.Author.Needs.{needs}
-use Rattle.report.proofs.direction_moves.Statement.{statement}
-use Rattle.report.proofs.direction_moves.Tie as tie
-use Rattle.report.proofs.direction_moves.Reads as reads
-use Rattle.report.proofs.direction_moves.Lts as lts
+use Rattle.automaton.proofs.direction_moves.Statement.{statement}
+use Rattle.automaton.proofs.direction_moves.Tie as tie
+use Rattle.automaton.proofs.direction_moves.Reads as reads
+use Rattle.automaton.proofs.direction_moves.Lts as lts
 use Rattle.automaton.proofs.may_resolve.Reads as may-resolve-reads
 use Rattle.marks.proofs.carrying.Reads as carrying-reads
 
 -- src/lib.rt:272:5

@@ -1,10 +1,10 @@
-use Rattle.report.proofs.Moves.{moves-at}
+use Rattle.automaton.proofs.Moves.{moves-at}
 use borrow.Author.Needs.{needs}
-use Rattle.report.proofs.node_moves.Statement.{statement}
-use Rattle.report.proofs.node_moves.Tie as tie
-use Rattle.report.proofs.node_moves.Reads as reads
-use Rattle.report.proofs.node_moves.Lts as lts
+use Rattle.automaton.proofs.node_moves.Statement.{statement}
+use Rattle.automaton.proofs.node_moves.Tie as tie
+use Rattle.automaton.proofs.node_moves.Reads as reads
+use Rattle.automaton.proofs.node_moves.Lts as lts
 use Rattle.automaton.proofs.unheard_at.Reads as unheard-at-reads
 use Rattle.marks.proofs.root.Reads as root-reads
 use Rattle.marks.proofs.waiting.Reads as waiting-reads
 

@@ -1,6 +1,5 @@
 use Rattle.automaton.proofs.More.{some-none, some-more, some-end, some-found}
-use Rattle.automaton.specs.Tried.{shown}
-use Rattle.report.specs.Reported.{linkMoves}
+use Rattle.automaton.specs.Tried.{shown, linkMoves}
 use Rattle.paper.specs.Table.{tableOf}
 use Rattle.paper.specs.Upload.{linksOf}
 use Rattle.counting.specs.Count.{some}
@@ -9,11 +8,11 @@ use mathlib.Core.Path.{_≡_, sym, _∙_}
 use Prim.Native.Nat.{ℕ, _-_, _≤_, _<_}
 use native.Mathlib.Omega.{arith}
 use borrow.Author.Needs.{needs}
-use Rattle.report.proofs.some_link_moves.Statement.{statement}
-use Rattle.report.proofs.some_link_moves.Tie as tie
-use Rattle.report.proofs.some_link_moves.Reads as reads
-use Rattle.report.proofs.some_link_moves.Lts as lts
-use Rattle.report.proofs.link_moves.Reads as link-moves-reads
+use Rattle.automaton.proofs.some_link_moves.Statement.{statement}
+use Rattle.automaton.proofs.some_link_moves.Tie as tie
+use Rattle.automaton.proofs.some_link_moves.Reads as reads
+use Rattle.automaton.proofs.some_link_moves.Lts as lts
+use Rattle.automaton.proofs.link_moves.Reads as link-moves-reads
 use Rattle.upload.proofs.links.Reads as links-reads
 
 abbrev Inv-loop : tie.InvT-loop

@@ -1,12 +1,12 @@
 use Rattle.paper.specs.Report.{moving}
 use mathlib.Core.Path.{sym, _∙_}
 use borrow.Author.Needs.{needs}
-use Rattle.report.proofs.is_moving.Statement.{statement}
-use Rattle.report.proofs.is_moving.Tie as tie
-use Rattle.report.proofs.is_moving.Reads as reads
-use Rattle.report.proofs.is_moving.Lts as lts
-use Rattle.report.proofs.some_link_moves.Reads as some-link-moves-reads
-use Rattle.report.proofs.some_node_moves.Reads as some-node-moves-reads
+use Rattle.automaton.proofs.is_moving.Statement.{statement}
+use Rattle.automaton.proofs.is_moving.Tie as tie
+use Rattle.automaton.proofs.is_moving.Reads as reads
+use Rattle.automaton.proofs.is_moving.Lts as lts
+use Rattle.automaton.proofs.some_link_moves.Reads as some-link-moves-reads
+use Rattle.automaton.proofs.some_node_moves.Reads as some-node-moves-reads
 
 -- src/lib.rt:320:8
 some-node-moves-requires : tie.Need-some-node-moves-requires

@@ -9,11 +9,11 @@ use mathlib.Core.Path.{_≡_, sym, _∙_}
 use Prim.Native.Nat.{ℕ, _-_, _≤_, _<_}
 use native.Mathlib.Omega.{arith}
 use borrow.Author.Needs.{needs}
-use Rattle.report.proofs.some_node_moves.Statement.{statement}
-use Rattle.report.proofs.some_node_moves.Tie as tie
-use Rattle.report.proofs.some_node_moves.Reads as reads
-use Rattle.report.proofs.some_node_moves.Lts as lts
-use Rattle.report.proofs.node_moves.Reads as node-moves-reads
+use Rattle.automaton.proofs.some_node_moves.Statement.{statement}
+use Rattle.automaton.proofs.some_node_moves.Tie as tie
+use Rattle.automaton.proofs.some_node_moves.Reads as reads
+use Rattle.automaton.proofs.some_node_moves.Lts as lts
+use Rattle.automaton.proofs.node_moves.Reads as node-moves-reads
 use Rattle.upload.proofs.nodes.Reads as nodes-reads
 
 abbrev Inv-loop : tie.InvT-loop
