@@ -34,7 +34,7 @@ some-found (suc n) i p h e = go (λ below. some-found n i p below e) (ℕ-discre
     go before (yes same) = rw (← same, e) (or-true (some i p))
     go before (no other) = rw (before (omega arith))
 
-or-neither : (a b : Bool) → (a || b) ≡ false → (a ≡ false) × (b ≡ false)
+pub or-neither : (a b : Bool) → (a || b) ≡ false → (a ≡ false) × (b ≡ false)
 or-neither true b h = absurd (true≢false h)
 or-neither false b h = (refl, h)
 

@@ -4,14 +4,23 @@ use mathlib.Core.Bool.{Bool, true, false, cond, _&&_, and-false}
 use mathlib.Core.List.{List, [], _∷_, _++_, append-nil}
 use mathlib.Core.Path.{_≡_, refl, sym, ap, ap₂, _∙_}
 use native.Mathlib.Omega.{arith}
-use borrow.Author.Tests.{lt-ltb, le-ltb, eq-eqb, ne-eqb}
+use borrow.Author.Tests.{lt-ltb, le-ltb, le-leb, eqb-false, ne-eqb}
 use lib.Dec.{ltb, eqb}
 use Rattle.counting.specs.Count.{joined}
 use Rattle.paper.specs.Table.{Table}
 use Rattle.paper.specs.State.{State}
 use Rattle.paper.specs.Steps.{Step, possible}
 use Rattle.paper.specs.Actions.{names, unread, linkBetween, directionFrom, nodeStep, linkStep, ofNode, ofLink, reading, refusedBy, entry, entriesAt}
+use Rattle.automaton.proofs.More.{or-neither}
 use Rattle.listing.specs.Links.{mayList}
+
+-- the kinds 1 to 5 that name no node alone name a link
+pub names-link : (kind : ℕ) → 1 ≤ kind → kind ≤ 5 → ofNode kind ≡ false → ofLink kind ≡ true
+names-link kind low high e =
+    let neither = or-neither (eqb kind 1) (eqb kind 5) e in
+    let one = eqb-false kind 1 (neither .0) in
+    let five = eqb-false kind 5 (neither .1) in
+    rw (le-leb 2 kind (omega arith), le-leb kind 4 (omega arith))
 
 joined-none : (n : ℕ) (f : ℕ → List ℕ) → ((y : ℕ) → y < n → f y ≡ []) → joined n f ≡ []
 unfolding joined

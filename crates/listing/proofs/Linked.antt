@@ -7,7 +7,7 @@ use native.Mathlib.Numerals.{add-one}
 use native.Mathlib.Omega.{arith}
 use native.Mathlib.Decide.{ℕ-discrete}
 use borrow.Author.Tests.{eq-eqb, ne-eqb}
-use lib.ListN.{length, length-set, set, getD}
+use lib.ListN.{length, length-set, set, getD, replicate, length-replicate, getD-replicate}
 use lib.Seq.{getD-set-same, getD-set-other}
 use lib.Dec.{eqb}
 use Rattle.counting.specs.Count.{least}
@@ -46,9 +46,12 @@ noted-size l x i a b = go (eqb a x) (eqb b x)
     go false false = refl
 
 -- nothing is noted yet
-pub noted-none : (t : Table) (x : ℕ) (l : List ℕ) → length l ≡ 64 → ((y : ℕ) → y < 64 → getD l y 0 ≡ t .links) → Noted t x (t .links) l
-noted-none t x l size same =
-    record { size = size; found = λ y h. ap (λ (d : ℕ). least (t .links) (joins t x y) d) (same y h) }
+pub noted-none : (t : Table) (x m : ℕ) → m ≡ t .links → Noted t x (t .links) (replicate 64 m)
+noted-none t x m e =
+    record {
+      size = length-replicate 64 m;
+      found = λ y h. ap (λ (d : ℕ). least (t .links) (joins t x y) d) (getD-replicate 64 y m 0 h ∙ e);
+    }
 
 -- link i is noted, before those behind it
 pub noted-more : (t : Table) (x i : ℕ) (l : List ℕ) →

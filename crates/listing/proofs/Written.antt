@@ -2,12 +2,12 @@
 use Prim.Native.Nat.{ℕ, suc, _+_, _*_, _≤_}
 use mathlib.Core.Bool.{Bool, true, false, cond}
 use mathlib.Core.List.{List, [], _∷_, _++_}
-use mathlib.Core.Path.{_≡_, refl, sym, ap, ap₂, _∙_}
+use mathlib.Core.Path.{_≡_, refl, sym, ap, ap₂, subst, _∙_}
 use native.Mathlib.Numerals.{add-one, add-two}
 use native.Mathlib.Nat.{add-zero, zero-add}
 use native.Mathlib.Omega.{arith}
 use lib.ListN.{length, length-append, drop, set}
-use lib.Seq.{sets, sets-eq}
+use lib.Seq.{sets, sets-eq, length-sets}
 use Rattle.counting.specs.Count.{joined}
 use Rattle.paper.specs.Calls.{over}
 use Rattle.listing.specs.Wrote.{Wrote}
@@ -53,3 +53,13 @@ pub wrote-entry : {o p q r : List ℕ} (n kind x y : ℕ) →
     Wrote o n (kind ∷ x ∷ y ∷ []) r (n + 1)
 wrote-entry n kind x y first second third =
     record { bytes = third ∙ rw (second, first, add-one, add-two); count = omega arith }
+
+pub wrote-as : {o p l k : List ℕ} {a b : ℕ} → l ≡ k → Wrote o a l p b → Wrote o a k p b
+wrote-as {o} {p} {l} {k} {a} {b} e w = subst (λ (r : List ℕ). Wrote o a r p b) e w
+
+pub wrote-size : {o p : List ℕ} {a b : ℕ} (l : List ℕ) → Wrote o a l p b → length p ≡ length o
+wrote-size {o} {p} {a} l w = ap length (w .bytes) ∙ length-sets o (3 * a) l
+
+-- the loop over a list of lists has come to the end
+pub wrote-end : {o p : List ℕ} {a b i n : ℕ} (f : ℕ → List ℕ) → i ≡ n → Wrote o a (joined i f) p b → Wrote o a (joined n f) p b
+wrote-end f e w = wrote-as (ap (λ (k : ℕ). joined k f) e) w

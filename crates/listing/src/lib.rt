@@ -1,11 +1,12 @@
 // The list of possible steps of a lent image.
 ghost use mathlib.Core.Path.{_≡_};
 ghost use Prim.Native.Nat.{_+_, _*_, _<_, _≤_};
-ghost use mathlib.Core.Bool.{cond};
+ghost use mathlib.Core.Bool.{true, false, cond};
 ghost use mathlib.Core.List.{[], _∷_};
 ghost use lib.ListN.{length, set};
 ghost use Rattle.paper.specs.Upload.{nodesOf, linksOf};
 ghost use Rattle.paper.specs.Table.{tableOf};
+ghost use Rattle.paper.specs.Actions.{linkBetween, ofNode, ofLink, entry, entriesAt, entriesOf, listed};
 ghost use Rattle.table.specs.Accepted.{Accepted};
 ghost use Rattle.marks.specs.Lent.{Lent};
 ghost use Rattle.automaton.specs.Tried.{shown};
@@ -83,4 +84,90 @@ fn may_list(upload: &[u8], image: &[u8], kind: usize, i: usize, x: usize) -> boo
     } else {
         false
     }
+}
+
+// Writes the entry of kind 1 or 5 at x, if there is one.
+fn node_entry(upload: &[u8], image: &[u8], out: &mut [u8], count: usize, kind: usize, x: usize) -> usize
+    requires { ⌜ Lent (now upload) (now image) × (x < nodesOf (now upload)) × (ofNode kind ≡ true) × (kind ≤ 5) × (count < 50000) ⌝ }
+    ensures { λ r. ⌜ Wrote (now (out .entry)) count (entriesAt (tableOf (now (upload .entry))) (shown (now (upload .entry)) (now (image .entry))) kind x) (now (out .exit)) r × (r ≤ count + 63) ⌝ }
+{
+    put_if(out, count, kind, x, 255, automaton::node_possible(upload, image, kind, x))
+}
+
+// Writes the entry of kinds 2 to 4 from x to y, if there is one; i is the link between them.
+fn link_entry(upload: &[u8], image: &[u8], out: &mut [u8], count: usize, kind: usize, x: usize, y: usize, i: usize) -> usize
+    requires { ⌜ Lent (now upload) (now image) × (x < nodesOf (now upload)) × (y < nodesOf (now upload)) × (ofNode kind ≡ false) × (ofLink kind ≡ true) × (kind ≤ 5) × (count < 50063) × (i ≡ linkBetween (tableOf (now upload)) x y) ⌝ }
+    ensures { λ r. ⌜ Wrote (now (out .entry)) count (entry (tableOf (now (upload .entry))) (shown (now (upload .entry)) (now (image .entry))) kind x y) (now (out .exit)) r × (r ≤ count + 1) ⌝ }
+{
+    put_if(out, count, kind, x, y, may_list(upload, image, kind, i, x))
+}
+
+// Writes the entries of kinds 2 to 4 from x, with a table of the links from x.
+fn link_row(upload: &[u8], image: &[u8], table: &[u8], out: &mut [u8], count: usize, kind: usize, x: usize) -> usize
+    requires { ⌜ Lent (now upload) (now image) × Noted (tableOf (now upload)) x 0 (now table) × (x < nodesOf (now upload)) × (ofNode kind ≡ false) × (ofLink kind ≡ true) × (kind ≤ 5) × (count < 50000) ⌝ }
+    ensures { λ r. ⌜ Wrote (now (out .entry)) count (entriesAt (tableOf (now (upload .entry))) (shown (now (upload .entry)) (now (image .entry))) kind x) (now (out .exit)) r × (r ≤ count + 63) ⌝ }
+{
+    let n = upload::nodes(upload);
+    let mut next = count;
+    let mut y: usize = 0;
+    while y < n {
+        let at = link_entry(upload, image, out, next, kind, x, y, upload::byte(table, y));
+        next = at;
+        y += 1;
+    }
+    next
+}
+
+// Writes the entries of kinds 2 to 4 from x.
+fn link_entries(upload: &[u8], image: &[u8], out: &mut [u8], count: usize, kind: usize, x: usize) -> usize
+    requires { ⌜ Lent (now upload) (now image) × (x < nodesOf (now upload)) × (ofNode kind ≡ false) × (ofLink kind ≡ true) × (kind ≤ 5) × (count < 50000) ⌝ }
+    ensures { λ r. ⌜ Wrote (now (out .entry)) count (entriesAt (tableOf (now (upload .entry))) (shown (now (upload .entry)) (now (image .entry))) kind x) (now (out .exit)) r × (r ≤ count + 63) ⌝ }
+{
+    let m = upload::links(upload) as u8;
+    let mut table = [m; 64];
+    note_links(upload, &mut table, x);
+    link_row(upload, image, &table, out, count, kind, x)
+}
+
+// Writes the entries of one kind at x.
+fn entries_at(upload: &[u8], image: &[u8], out: &mut [u8], count: usize, kind: usize, x: usize) -> usize
+    requires { ⌜ Lent (now upload) (now image) × (x < nodesOf (now upload)) × (1 ≤ kind) × (kind ≤ 5) × (count < 50000) ⌝ }
+    ensures { λ r. ⌜ Wrote (now (out .entry)) count (entriesAt (tableOf (now (upload .entry))) (shown (now (upload .entry)) (now (image .entry))) kind x) (now (out .exit)) r × (r ≤ count + 63) ⌝ }
+{
+    if (kind == 1) | (kind == 5) {
+        node_entry(upload, image, out, count, kind, x)
+    } else {
+        link_entries(upload, image, out, count, kind, x)
+    }
+}
+
+// Writes the entries of one kind.
+fn entries_of(upload: &[u8], image: &[u8], out: &mut [u8], count: usize, kind: usize) -> usize
+    requires { ⌜ Lent (now upload) (now image) × (1 ≤ kind) × (kind ≤ 5) × (count < 40000) ⌝ }
+    ensures { λ r. ⌜ Wrote (now (out .entry)) count (entriesOf (tableOf (now (upload .entry))) (shown (now (upload .entry)) (now (image .entry))) kind) (now (out .exit)) r × (r ≤ count + 3969) ⌝ }
+{
+    let n = upload::nodes(upload);
+    let mut next = count;
+    let mut x: usize = 0;
+    while x < n {
+        let at = entries_at(upload, image, out, next, kind, x);
+        next = at;
+        x += 1;
+    }
+    next
+}
+
+// Writes the whole list as far as there is room, and answers how many steps it has.
+pub fn list_into(upload: &[u8], image: &[u8], out: &mut [u8]) -> usize
+    requires { ⌜ Lent (now upload) (now image) ⌝ }
+    ensures { λ r. ⌜ Wrote (now (out .entry)) 0 (listed (tableOf (now (upload .entry))) (shown (now (upload .entry)) (now (image .entry)))) (now (out .exit)) r × (r ≤ 19845) ⌝ }
+{
+    let mut next: usize = 0;
+    let mut k: usize = 0;
+    while k < 5 {
+        let at = entries_of(upload, image, out, next, k + 1);
+        next = at;
+        k += 1;
+    }
+    next
 }
