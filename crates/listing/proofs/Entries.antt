@@ -1,8 +1,8 @@
 -- The entries of one kind and one x: at most one, for 255, in kinds 1 and 5, and none for 255 in kinds 2 to 4.
 use Prim.Native.Nat.{ℕ, zero, suc, _<_, _≤_}
-use mathlib.Core.Bool.{Bool, true, false, cond, _&&_, and-false}
-use mathlib.Core.List.{List, [], _∷_, _++_, append-nil}
-use mathlib.Core.Path.{_≡_, refl, sym, ap, ap₂, _∙_}
+use mathlib.Core.Bool.{Bool, true, false, cond, and-false}
+use mathlib.Core.List.{List, [], _∷_, append-nil}
+use mathlib.Core.Path.{_≡_, refl}
 use native.Mathlib.Omega.{arith}
 use borrow.Author.Tests.{lt-ltb, le-ltb, le-leb, eqb-false, ne-eqb}
 use lib.Dec.{ltb, eqb}

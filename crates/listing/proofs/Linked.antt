@@ -1,5 +1,5 @@
 -- A table of links, link by link.
-use Prim.Native.Nat.{ℕ, zero, suc, _+_, _<_, _≤_}
+use Prim.Native.Nat.{ℕ, _+_, _<_}
 use mathlib.Core.Bool.{Bool, true, false, cond, _&&_, _||_, and-false, and-true, or-false}
 use mathlib.Core.List.{List}
 use mathlib.Core.Path.{_≡_, refl, sym, ap, _∙_}

@@ -7,6 +7,7 @@ ghost use lib.ListN.{length, set};
 ghost use Rattle.paper.specs.Upload.{nodesOf, linksOf};
 ghost use Rattle.paper.specs.Table.{tableOf};
 ghost use Rattle.paper.specs.Actions.{linkBetween, ofNode, ofLink, entry, entriesAt, entriesOf, listed};
+ghost use Rattle.paper.specs.Calls.{over};
 ghost use Rattle.table.specs.Accepted.{Accepted};
 ghost use Rattle.marks.specs.Lent.{Lent};
 ghost use Rattle.automaton.specs.Tried.{shown};
@@ -69,7 +70,13 @@ fn note_links(upload: &[u8], table: &mut [u8], x: usize)
     let mut i = upload::links(upload);
     while 0 < i {
         i -= 1;
-        note_link(table, x, i, automaton::end_node(upload, i, false), automaton::end_node(upload, i, true));
+        note_link(
+            table,
+            x,
+            i,
+            automaton::end_node(upload, i, false),
+            automaton::end_node(upload, i, true),
+        );
     }
 }
 
@@ -87,15 +94,38 @@ fn may_list(upload: &[u8], image: &[u8], kind: usize, i: usize, x: usize) -> boo
 }
 
 // Writes the entry of kind 1 or 5 at x, if there is one.
-fn node_entry(upload: &[u8], image: &[u8], out: &mut [u8], count: usize, kind: usize, x: usize) -> usize
+fn node_entry(
+    upload: &[u8],
+    image: &[u8],
+    out: &mut [u8],
+    count: usize,
+    kind: usize,
+    x: usize,
+) -> usize
     requires { ⌜ Lent (now upload) (now image) × (x < nodesOf (now upload)) × (ofNode kind ≡ true) × (kind ≤ 5) × (count < 50000) ⌝ }
     ensures { λ r. ⌜ Wrote (now (out .entry)) count (entriesAt (tableOf (now (upload .entry))) (shown (now (upload .entry)) (now (image .entry))) kind x) (now (out .exit)) r × (r ≤ count + 63) ⌝ }
 {
-    put_if(out, count, kind, x, 255, automaton::node_possible(upload, image, kind, x))
+    put_if(
+        out,
+        count,
+        kind,
+        x,
+        255,
+        automaton::node_possible(upload, image, kind, x),
+    )
 }
 
 // Writes the entry of kinds 2 to 4 from x to y, if there is one; i is the link between them.
-fn link_entry(upload: &[u8], image: &[u8], out: &mut [u8], count: usize, kind: usize, x: usize, y: usize, i: usize) -> usize
+fn link_entry(
+    upload: &[u8],
+    image: &[u8],
+    out: &mut [u8],
+    count: usize,
+    kind: usize,
+    x: usize,
+    y: usize,
+    i: usize,
+) -> usize
     requires { ⌜ Lent (now upload) (now image) × (x < nodesOf (now upload)) × (y < nodesOf (now upload)) × (ofNode kind ≡ false) × (ofLink kind ≡ true) × (kind ≤ 5) × (count < 50063) × (i ≡ linkBetween (tableOf (now upload)) x y) ⌝ }
     ensures { λ r. ⌜ Wrote (now (out .entry)) count (entry (tableOf (now (upload .entry))) (shown (now (upload .entry)) (now (image .entry))) kind x y) (now (out .exit)) r × (r ≤ count + 1) ⌝ }
 {
@@ -103,7 +133,15 @@ fn link_entry(upload: &[u8], image: &[u8], out: &mut [u8], count: usize, kind: u
 }
 
 // Writes the entries of kinds 2 to 4 from x, with a table of the links from x.
-fn link_row(upload: &[u8], image: &[u8], table: &[u8], out: &mut [u8], count: usize, kind: usize, x: usize) -> usize
+fn link_row(
+    upload: &[u8],
+    image: &[u8],
+    table: &[u8],
+    out: &mut [u8],
+    count: usize,
+    kind: usize,
+    x: usize,
+) -> usize
     requires { ⌜ Lent (now upload) (now image) × Noted (tableOf (now upload)) x 0 (now table) × (x < nodesOf (now upload)) × (ofNode kind ≡ false) × (ofLink kind ≡ true) × (kind ≤ 5) × (count < 50000) ⌝ }
     ensures { λ r. ⌜ Wrote (now (out .entry)) count (entriesAt (tableOf (now (upload .entry))) (shown (now (upload .entry)) (now (image .entry))) kind x) (now (out .exit)) r × (r ≤ count + 63) ⌝ }
 {
@@ -119,7 +157,14 @@ fn link_row(upload: &[u8], image: &[u8], table: &[u8], out: &mut [u8], count: us
 }
 
 // Writes the entries of kinds 2 to 4 from x.
-fn link_entries(upload: &[u8], image: &[u8], out: &mut [u8], count: usize, kind: usize, x: usize) -> usize
+fn link_entries(
+    upload: &[u8],
+    image: &[u8],
+    out: &mut [u8],
+    count: usize,
+    kind: usize,
+    x: usize,
+) -> usize
     requires { ⌜ Lent (now upload) (now image) × (x < nodesOf (now upload)) × (ofNode kind ≡ false) × (ofLink kind ≡ true) × (kind ≤ 5) × (count < 50000) ⌝ }
     ensures { λ r. ⌜ Wrote (now (out .entry)) count (entriesAt (tableOf (now (upload .entry))) (shown (now (upload .entry)) (now (image .entry))) kind x) (now (out .exit)) r × (r ≤ count + 63) ⌝ }
 {
@@ -130,7 +175,14 @@ fn link_entries(upload: &[u8], image: &[u8], out: &mut [u8], count: usize, kind:
 }
 
 // Writes the entries of one kind at x.
-fn entries_at(upload: &[u8], image: &[u8], out: &mut [u8], count: usize, kind: usize, x: usize) -> usize
+fn entries_at(
+    upload: &[u8],
+    image: &[u8],
+    out: &mut [u8],
+    count: usize,
+    kind: usize,
+    x: usize,
+) -> usize
     requires { ⌜ Lent (now upload) (now image) × (x < nodesOf (now upload)) × (1 ≤ kind) × (kind ≤ 5) × (count < 50000) ⌝ }
     ensures { λ r. ⌜ Wrote (now (out .entry)) count (entriesAt (tableOf (now (upload .entry))) (shown (now (upload .entry)) (now (image .entry))) kind x) (now (out .exit)) r × (r ≤ count + 63) ⌝ }
 {
@@ -170,4 +222,21 @@ pub fn list_into(upload: &[u8], image: &[u8], out: &mut [u8]) -> usize
         k += 1;
     }
     next
+}
+
+// How many steps the list has.
+pub fn count_listed(upload: &[u8], image: &[u8]) -> usize
+    requires { ⌜ Lent (now upload) (now image) ⌝ }
+    ensures { λ r. ⌜ (length (listed (tableOf (now (upload .entry))) (shown (now (upload .entry)) (now (image .entry)))) ≡ 3 * r) × (r ≤ 19845) ⌝ }
+{
+    let mut none = [0u8; 1];
+    list_into(upload, image, &mut none)
+}
+
+// Writes the list into a buffer that has room for it, and answers how many steps it has.
+pub fn list(upload: &[u8], image: &[u8], out: &mut [u8]) -> usize
+    requires { ⌜ Lent (now upload) (now image) × (length (listed (tableOf (now upload)) (shown (now upload) (now image))) ≤ length (now out)) ⌝ }
+    ensures { λ r. ⌜ (length (listed (tableOf (now (upload .entry))) (shown (now (upload .entry)) (now (image .entry)))) ≡ 3 * r) × (now (out .exit) ≡ over (listed (tableOf (now (upload .entry))) (shown (now (upload .entry)) (now (image .entry)))) (now (out .entry))) ⌝ }
+{
+    list_into(upload, image, out)
 }

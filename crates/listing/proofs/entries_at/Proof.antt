@@ -1,5 +1,5 @@
-use Rattle.listing.proofs.Entries.{names-link}
 use borrow.Author.Needs.{needs}
+use Rattle.listing.proofs.Entries.{names-link}
 use Rattle.listing.proofs.entries_at.Statement.{statement}
 use Rattle.listing.proofs.entries_at.Tie as tie
 use Rattle.listing.proofs.entries_at.Reads as reads

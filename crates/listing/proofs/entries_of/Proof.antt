@@ -1,20 +1,20 @@
-use Rattle.automaton.specs.Tried.{shown}
+use borrow.Author.Needs.{needs}
+use Prim.Native.Nat.{_+_, _*_, _-_, _≤_}
+use mathlib.Core.Path.{_≡_}
+use native.Mathlib.Omega.{arith}
+use Rattle.counting.specs.Count.{joined}
 use Rattle.paper.specs.Table.{tableOf}
 use Rattle.paper.specs.Actions.{entriesAt}
 use Rattle.paper.specs.Upload.{nodesOf}
-use Rattle.counting.specs.Count.{joined}
+use Rattle.upload.proofs.nodes.Reads as nodes-reads
+use Rattle.automaton.specs.Tried.{shown}
 use Rattle.listing.specs.Wrote.{Wrote}
 use Rattle.listing.proofs.Written.{wrote-start, wrote-next, wrote-end, wrote-size}
-use Prim.Native.Nat.{_+_, _*_, _-_, _<_, _≤_}
-use mathlib.Core.Path.{_≡_, sym, ap, _∙_}
-use native.Mathlib.Omega.{arith}
-use borrow.Author.Needs.{needs}
 use Rattle.listing.proofs.entries_of.Statement.{statement}
 use Rattle.listing.proofs.entries_of.Tie as tie
 use Rattle.listing.proofs.entries_of.Reads as reads
 use Rattle.listing.proofs.entries_of.Lts as lts
 use Rattle.listing.proofs.entries_at.Reads as entries-at-reads
-use Rattle.upload.proofs.nodes.Reads as nodes-reads
 
 abbrev Inv-loop : tie.InvT-loop
 Inv-loop upload image out₀ count kind n next₀ x₀ out next x =

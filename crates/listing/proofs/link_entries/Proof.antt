@@ -1,12 +1,12 @@
-use Rattle.listing.proofs.Linked.{noted-none}
 use borrow.Author.Needs.{needs}
+use Rattle.upload.proofs.links.Reads as links-reads
+use Rattle.listing.proofs.Linked.{noted-none}
 use Rattle.listing.proofs.link_entries.Statement.{statement}
 use Rattle.listing.proofs.link_entries.Tie as tie
 use Rattle.listing.proofs.link_entries.Reads as reads
 use Rattle.listing.proofs.link_entries.Lts as lts
 use Rattle.listing.proofs.link_row.Reads as link-row-reads
 use Rattle.listing.proofs.note_links.Reads as note-links-reads
-use Rattle.upload.proofs.links.Reads as links-reads
 
 -- src/lib.rt:126:13
 links-requires : tie.Need-links-requires

@@ -1,23 +1,23 @@
-use Rattle.automaton.specs.Tried.{shown}
+use borrow.Author.Needs.{needs}
+use Prim.Native.Nat.{_+_, _-_, _<_, _≤_}
+use mathlib.Core.Path.{_≡_, sym, _∙_}
+use native.Mathlib.Omega.{arith}
+use Rattle.counting.specs.Count.{joined}
 use Rattle.paper.specs.Table.{tableOf}
 use Rattle.paper.specs.Actions.{entry}
 use Rattle.paper.specs.Upload.{nodesOf}
-use Rattle.counting.specs.Count.{joined}
+use Rattle.upload.proofs.byte.Reads as byte-reads
+use Rattle.upload.proofs.nodes.Reads as nodes-reads
+use Rattle.automaton.specs.Tried.{shown}
 use Rattle.listing.specs.Wrote.{Wrote}
 use Rattle.listing.proofs.Linked.{noted-all}
 use Rattle.listing.proofs.Entries.{link-entries}
 use Rattle.listing.proofs.Written.{wrote-start, wrote-next, wrote-end, wrote-as, wrote-size}
-use Prim.Native.Nat.{_+_, _-_, _<_, _≤_}
-use mathlib.Core.Path.{_≡_, sym, ap, _∙_}
-use native.Mathlib.Omega.{arith}
-use borrow.Author.Needs.{needs}
 use Rattle.listing.proofs.link_row.Statement.{statement}
 use Rattle.listing.proofs.link_row.Tie as tie
 use Rattle.listing.proofs.link_row.Reads as reads
 use Rattle.listing.proofs.link_row.Lts as lts
 use Rattle.listing.proofs.link_entry.Reads as link-entry-reads
-use Rattle.upload.proofs.byte.Reads as byte-reads
-use Rattle.upload.proofs.nodes.Reads as nodes-reads
 
 abbrev Inv-loop : tie.InvT-loop
 Inv-loop upload image table out₀ count kind x n next₀ y₀ out next y =
@@ -45,15 +45,16 @@ link-entry-requires : tie.Need-link-entry-requires Inv-loop μ-loop
 link-entry-requires c κs =
     let at = c .before .before .before .before .before .before .before .before .before in
     let now = c .before .before .before .loop in
-    let below : now .y < nodesOf (at .args .upload .now) = omega arith in
-    (at .pre .0,
-     at .pre .2,
-     below,
-     at .pre .3,
-     at .pre .4,
-     at .pre .5,
-     omega (arith, at .pre .0 .table .nodesFit),
-     c .byte .ensures .0 ∙ noted-all (at .pre .1) (now .y) (omega (arith, at .pre .0 .table .nodesFit)))
+    let below : now .y < nodesOf (at .args .upload .now) = omega arith in (
+      at .pre .0,
+      at .pre .2,
+      below,
+      at .pre .3,
+      at .pre .4,
+      at .pre .5,
+      omega (arith, at .pre .0 .table .nodesFit),
+      c .byte .ensures .0 ∙ noted-all (at .pre .1) (now .y) (omega (arith, at .pre .0 .table .nodesFit)),
+    )
 
 -- src/lib.rt:116:9
 add-y : tie.Need-add-y Inv-loop μ-loop
@@ -78,10 +79,12 @@ returns : tie.Need-returns Inv-loop μ-loop
 returns c =
     let at = c .before .before .before .before .before .before .before in
     let now = c .before .loop in
-    let all : now .y ≡ nodesOf (at .args .upload .now) = omega arith in
-    (wrote-as
-    (sym (link-entries _ _ (at .args .kind) (at .args .x) (at .pre .0 .table .nodesFit) (at .pre .2) (at .pre .3) (at .pre .4)))
-    (wrote-end _ all (now .inv .2)), omega (arith, at .pre .0 .table .nodesFit))
+    let all : now .y ≡ nodesOf (at .args .upload .now) = omega arith in (
+      wrote-as
+          (sym (link-entries _ _ (at .args .kind) (at .args .x) (at .pre .0 .table .nodesFit) (at .pre .2) (at .pre .3) (at .pre .4)))
+          (wrote-end _ all (now .inv .2)),
+      omega (arith, at .pre .0 .table .nodesFit),
+    )
 
 pub link-row-spec : {M : Type 1} → statement M
 link-row-spec =

@@ -1,17 +1,17 @@
-use Rattle.paper.specs.Upload.{linksOf}
 use borrow.Author.Tests.{lt-ltb, le-ltb}
-use lib.Dec.{ltb}
+use borrow.Author.Needs.{needs}
 use mathlib.Core.Bool.{true, false}
 use mathlib.Core.Path.{_≡_}
 use native.Mathlib.Omega.{arith}
-use borrow.Author.Needs.{needs}
+use lib.Dec.{ltb}
+use Rattle.paper.specs.Upload.{linksOf}
+use Rattle.upload.proofs.links.Reads as links-reads
+use Rattle.automaton.proofs.end_node.Reads as end-node-reads
+use Rattle.automaton.proofs.link_possible.Reads as link-possible-reads
 use Rattle.listing.proofs.may_list.Statement.{statement}
 use Rattle.listing.proofs.may_list.Tie as tie
 use Rattle.listing.proofs.may_list.Reads as reads
 use Rattle.listing.proofs.may_list.Lts as lts
-use Rattle.automaton.proofs.end_node.Reads as end-node-reads
-use Rattle.automaton.proofs.link_possible.Reads as link-possible-reads
-use Rattle.upload.proofs.links.Reads as links-reads
 
 -- src/lib.rt:80:12
 links-requires : tie.Need-links-requires

@@ -1,5 +1,5 @@
-use Rattle.listing.proofs.Written.{wrote-entry}
 use borrow.Author.Needs.{needs}
+use Rattle.listing.proofs.Written.{wrote-entry}
 use Rattle.listing.proofs.put_entry.Statement.{statement}
 use Rattle.listing.proofs.put_entry.Tie as tie
 use Rattle.listing.proofs.put_entry.Reads as reads
@@ -41,9 +41,10 @@ same-length c = search needs
 -- src/lib.rt:20:1
 returns : tie.Need-returns
 returns c =
-    let at = c .before .before .before .before .before .before .before .before .before .before .before .before .before in
-    (wrote-entry (at .args .count) (at .args .kind) (at .args .x) (at .args .y) (c .before .before .before .before .before .before .before .before .before .before .put .ensures) (c .before .before .before .before .before .before .put2 .ensures) (c .before .before .put3 .ensures),
-     search needs)
+    let at = c .before .before .before .before .before .before .before .before .before .before .before .before .before in (
+      wrote-entry (at .args .count) (at .args .kind) (at .args .x) (at .args .y) (c .before .before .before .before .before .before .before .before .before .before .put .ensures) (c .before .before .before .before .before .before .put2 .ensures) (c .before .before .put3 .ensures),
+      search needs,
+    )
 
 pub put-entry-spec : {M : Type 1} → statement M
 put-entry-spec =

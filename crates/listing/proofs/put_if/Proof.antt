@@ -1,5 +1,5 @@
-use Rattle.listing.proofs.Written.{wrote-none}
 use borrow.Author.Needs.{needs}
+use Rattle.listing.proofs.Written.{wrote-none}
 use Rattle.listing.proofs.put_if.Statement.{statement}
 use Rattle.listing.proofs.put_if.Tie as tie
 use Rattle.listing.proofs.put_if.Reads as reads
