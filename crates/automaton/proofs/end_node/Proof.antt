@@ -1,16 +1,11 @@
 use borrow.Author.Needs.{needs}
 use native.Mathlib.Omega.{arith}
-use Rattle.upload.proofs.end.Reads as end-reads
 use Rattle.automaton.proofs.end_node.Statement.{statement}
 use Rattle.automaton.proofs.end_node.Tie as tie
-use Rattle.automaton.proofs.end_node.Reads as reads
-use Rattle.automaton.proofs.end_node.Lts as lts
 
--- src/lib.rt:52:5
 end-requires : tie.Need-end-requires
 end-requires c κs = search needs
 
--- src/lib.rt:48:1
 returns : tie.Need-returns
 returns c =
     let at = c .before .before in

@@ -5,19 +5,13 @@ use mathlib.Core.Path.{ap₂}
 use lib.Dec.{eqb}
 use Rattle.automaton.proofs.joins_at.Statement.{statement}
 use Rattle.automaton.proofs.joins_at.Tie as tie
-use Rattle.automaton.proofs.joins_at.Reads as reads
-use Rattle.automaton.proofs.joins_at.Lts as lts
-use Rattle.automaton.proofs.end_node.Reads as end-node-reads
 
--- src/lib.rt:114:9
 end-node-requires : tie.Need-end-node-requires
 end-node-requires c κs = search needs
 
--- src/lib.rt:115:9
 end-node-requires-2 : tie.Need-end-node-requires-2
 end-node-requires-2 c κs = search needs
 
--- src/lib.rt:110:1
 returns : tie.Need-returns
 returns c =
     let at = c .before .before .before in

@@ -1,21 +1,14 @@
 use borrow.Author.Needs.{needs}
-use Rattle.marks.proofs.root.Reads as root-reads
 use Rattle.automaton.proofs.Possible.{becomes}
 use Rattle.automaton.proofs.may_become_root.Statement.{statement}
 use Rattle.automaton.proofs.may_become_root.Tie as tie
-use Rattle.automaton.proofs.may_become_root.Reads as reads
-use Rattle.automaton.proofs.may_become_root.Lts as lts
-use Rattle.automaton.proofs.unheard_at.Reads as unheard-at-reads
 
--- src/lib.rt:83:6
 root-requires : tie.Need-root-requires
 root-requires c κs = search needs
 
--- src/lib.rt:83:39
 unheard-at-requires : tie.Need-unheard-at-requires
 unheard-at-requires c κs = search needs
 
--- src/lib.rt:79:1
 returns : tie.Need-returns
 returns c =
     let at = c .before .before .before .before .before in

@@ -10,24 +10,16 @@ use Rattle.listing.proofs.Entries.{link-entry}
 use Rattle.listing.proofs.Written.{wrote-as}
 use Rattle.listing.proofs.link_entry.Statement.{statement}
 use Rattle.listing.proofs.link_entry.Tie as tie
-use Rattle.listing.proofs.link_entry.Reads as reads
-use Rattle.listing.proofs.link_entry.Lts as lts
-use Rattle.listing.proofs.may_list.Reads as may-list-reads
-use Rattle.listing.proofs.put_if.Reads as put-if-reads
 
--- src/lib.rt:102:36
 may-list-requires : tie.Need-may-list-requires
 may-list-requires c κs = search needs
 
--- src/lib.rt:102:5
 put-if-requires : tie.Need-put-if-requires
 put-if-requires c κs = search needs
 
--- src/lib.rt:98:1
 same-length : tie.Need-same-length
 same-length c = search needs
 
--- src/lib.rt:98:1
 returns : tie.Need-returns
 returns c =
     let at = c .before .before .before .before .before .before .before .before in

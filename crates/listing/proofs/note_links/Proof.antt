@@ -5,15 +5,10 @@ use mathlib.Core.Path.{_≡_, sym, ap₂, subst, _∙_}
 use native.Mathlib.Omega.{arith}
 use Rattle.paper.specs.Table.{tableOf}
 use Rattle.paper.specs.Upload.{linksOf}
-use Rattle.upload.proofs.links.Reads as links-reads
-use Rattle.automaton.proofs.end_node.Reads as end-node-reads
 use Rattle.listing.specs.Links.{noted, Noted}
 use Rattle.listing.proofs.Linked.{noted-more}
 use Rattle.listing.proofs.note_links.Statement.{statement}
 use Rattle.listing.proofs.note_links.Tie as tie
-use Rattle.listing.proofs.note_links.Reads as reads
-use Rattle.listing.proofs.note_links.Lts as lts
-use Rattle.listing.proofs.note_link.Reads as note-link-reads
 
 abbrev Inv-loop : tie.InvT-loop
 Inv-loop upload table₀ x i₀ table i = (i ≤ linksOf upload) × Noted (tableOf upload) x i table
@@ -21,27 +16,21 @@ Inv-loop upload table₀ x i₀ table i = (i ≤ linksOf upload) × Noted (table
 abbrev μ-loop : tie.MeasureT-loop
 μ-loop upload table₀ x i₀ table i = i
 
--- src/lib.rt:68:9
 links-requires : tie.Need-links-requires Inv-loop μ-loop
 links-requires c κs = search needs
 
--- src/lib.rt:69:5
 loop-holds : tie.Need-loop-holds Inv-loop μ-loop
 loop-holds c = (search needs, rw (c .links .ensures .0) (c .before .before .before .pre .1))
 
--- src/lib.rt:70:9
 sub-i : tie.Need-sub-i Inv-loop μ-loop
 sub-i c = search needs
 
--- src/lib.rt:71:32
 end-node-requires : tie.Need-end-node-requires Inv-loop μ-loop
 end-node-requires c κs = search needs
 
--- src/lib.rt:71:71
 end-node-requires-2 : tie.Need-end-node-requires-2 Inv-loop μ-loop
 end-node-requires-2 c κs = search needs
 
--- src/lib.rt:71:9
 note-link-requires : tie.Need-note-link-requires Inv-loop μ-loop
 note-link-requires c κs =
     let at = c .before .before .before .before .before .before .before .before in
@@ -51,11 +40,9 @@ note-link-requires c κs =
       omega (arith, at .pre .0 .nodesFit, now .inv .1 .size),
     )
 
--- src/lib.rt:69:5
 loop-less : tie.Need-loop-less Inv-loop μ-loop
 loop-less c = search needs
 
--- src/lib.rt:69:5
 loop-again : tie.Need-loop-again Inv-loop μ-loop
 loop-again c =
     let at = c .before .before .before .before .before .before .before .before .before .before .before in
@@ -74,11 +61,9 @@ loop-again c =
           (subst (λ (k : ℕ). Noted t x k (now .table)) before (now .inv .1))),
     )
 
--- src/lib.rt:64:1
 same-length : tie.Need-same-length Inv-loop μ-loop
 same-length c = search needs
 
--- src/lib.rt:64:1
 returns : tie.Need-returns Inv-loop μ-loop
 returns c =
     let at = c .before .before .before .before .before in
