@@ -1,2 +1,3 @@
-pub mod Sums
 pub mod Bits
+pub mod Sums
+pub mod Directions

@@ -1,1 +1,13 @@
 pub mod Replays
+pub mod Tests
+pub mod OnePiece
+pub mod Changes
+pub mod Images
+pub mod Kept
+pub mod Passing
+pub mod Published
+pub mod Moving
+pub mod Readings
+pub mod Listed
+pub mod Decimal
+pub mod Examples

@@ -1,1 +1,4 @@
 pub mod Accepted
+pub mod Checked
+pub mod Labels
+pub mod ExactlyWhen

@@ -1,1 +1,259 @@
 // The reader: checks 3 to 8 of an upload, and what an accepted table gives to its callers.
+ghost use mathlib.Core.Path.{_≡_};
+ghost use mathlib.Core.Bool.{cond};
+ghost use Prim.Native.Nat.{_+_, _<_, _≤_};
+ghost use lib.ListN.{length, getD};
+ghost use lib.Dec.{eqb};
+ghost use Rattle.counting.specs.Count.{all};
+ghost use Rattle.paper.specs.Upload.{byteAt, nodesOf, linksOf, actionsOf, linkAt};
+ghost use Rattle.paper.specs.Table.{tableOf, onePiece};
+ghost use Rattle.paper.specs.Actions.{joins};
+ghost use Rattle.paper.specs.Refusals.{inRange, repeats, linkRefusal};
+ghost use Rattle.table.specs.Labels.{Labelled, Rewritten, ownNumber, renamed};
+ghost use Rattle.table.specs.Checked.{checked, answeredAt, pieceRefusal, linksThenPiece, HeaderPasses, LinksInside};
+
+// The answer of the reader.
+pub enum Checked {
+    Accepted { n: usize, m: usize, a: usize },
+    Refused { number: u8, place: u16 },
+}
+
+// The byte at a place, as a number.
+pub fn byte(s: &[u8], i: usize) -> usize
+    requires { ⌜ i < length (now s) ⌝ }
+    ensures { λ r. ⌜ (r ≡ byteAt (now (s .entry)) i) × (r < 256) ⌝ }
+{
+    s[i] as usize
+}
+
+// n, the number of nodes.
+pub fn nodes(upload: &[u8]) -> usize
+    requires { ⌜ 4 ≤ length (now upload) ⌝ }
+    ensures { λ r. ⌜ (r ≡ nodesOf (now (upload .entry))) × (r < 256) ⌝ }
+{
+    byte(upload, 0)
+}
+
+// m, the number of links.
+pub fn links(upload: &[u8]) -> usize
+    requires { ⌜ 4 ≤ length (now upload) ⌝ }
+    ensures { λ r. ⌜ (r ≡ linksOf (now (upload .entry))) × (r < 256) ⌝ }
+{
+    byte(upload, 1)
+}
+
+// a, the number of actions.
+pub fn actions(upload: &[u8]) -> usize
+    requires { ⌜ 4 ≤ length (now upload) ⌝ }
+    ensures { λ r. ⌜ (r ≡ actionsOf (now (upload .entry))) × (r < 65536) ⌝ }
+{
+    256 * byte(upload, 2) + byte(upload, 3)
+}
+
+// The first node of link i, or its second.
+pub fn end(upload: &[u8], i: usize, second: bool) -> usize
+    requires { ⌜ linkAt i + 1 < length (now upload) ⌝ }
+    ensures { λ r. ⌜ (r ≡ tableOf (now (upload .entry)) .end i second) × (r < 256) ⌝ }
+{
+    byte(upload, 4 + 2 * i + (second as usize))
+}
+
+// n, m and a are in range.
+fn in_range(n: usize, m: usize, a: usize) -> bool
+    ensures { λ r. ⌜ r ≡ inRange n m a ⌝ }
+{
+    ((1 <= n) & (n <= 63)) & ((m <= 126) & (a <= 1024))
+}
+
+// Link i joins x and y, either way round.
+fn joins(upload: &[u8], x: usize, y: usize, i: usize) -> bool
+    requires { ⌜ linkAt i + 1 < length (now upload) ⌝ }
+    ensures { λ r. ⌜ r ≡ joins (tableOf (now (upload .entry))) x y i ⌝ }
+{
+    let p = end(upload, i, false);
+    let q = end(upload, i, true);
+    ((p == x) & (q == y)) | ((p == y) & (q == x))
+}
+
+// Link i repeats an earlier one.
+fn repeats(upload: &[u8], i: usize) -> bool
+    requires { ⌜ linkAt i + 1 < length (now upload) ⌝ }
+    ensures { λ r. ⌜ r ≡ repeats (tableOf (now (upload .entry))) i ⌝ }
+{
+    let x = end(upload, i, false);
+    let y = end(upload, i, true);
+    let mut found = false;
+    let mut j = 0;
+    while j < i {
+        found = found | joins(upload, x, y, j);
+        j += 1;
+    }
+    found
+}
+
+// The number by which link i is refused, 0 where it passes.
+fn link_number(upload: &[u8], i: usize) -> u8
+    requires { ⌜ linkAt i + 1 < length (now upload) ⌝ }
+    ensures { λ r. ⌜ r ≡ linkRefusal (tableOf (now (upload .entry))) i .number ⌝ }
+{
+    let n = nodes(upload);
+    let p = end(upload, i, false);
+    let q = end(upload, i, true);
+    if !((p < n) & (q < n)) {
+        return 5;
+    }
+    if p == q {
+        return 6;
+    }
+    if repeats(upload, i) {
+        return 7;
+    }
+    0
+}
+
+// Every node has its own number as label.
+fn number_nodes(labels: &mut [u8])
+    requires { ⌜ length (now labels) ≤ 63 ⌝ }
+    ensures { λ r. ⌜ Rewritten ownNumber (now (labels .entry)) (now (labels .exit)) ⌝ }
+{
+    let mut x = 0;
+    while x < labels.len() {
+        labels[x] = x as u8;
+        x += 1;
+    }
+}
+
+// The label that a node with this one has after a link.
+fn label_after(label: u8, second: u8, first: u8) -> u8
+    ensures { λ r. ⌜ r ≡ cond (eqb label second) first label ⌝ }
+{
+    if label == second { first } else { label }
+}
+
+// All nodes that have the second label get the first.
+fn relabel(labels: &mut [u8], second: u8, first: u8)
+    ensures { λ r. ⌜ Rewritten (renamed second first) (now (labels .entry)) (now (labels .exit)) ⌝ }
+{
+    let mut x = 0;
+    while x < labels.len() {
+        labels[x] = label_after(labels[x], second, first);
+        x += 1;
+    }
+}
+
+// Each link in turn gives all nodes that have its second node's label the label of its first.
+fn join_all(labels: &mut [u8], upload: &[u8])
+    requires { ⌜ Labelled (tableOf (now upload)) 0 (now labels) × LinksInside (now upload) ⌝ }
+    ensures { λ r. ⌜ Labelled (tableOf (now (upload .entry))) (linksOf (now (upload .entry))) (now (labels .exit)) ⌝ }
+{
+    let m = links(upload);
+    let mut i = 0;
+    while i < m {
+        let first = labels[end(upload, i, false)];
+        let second = labels[end(upload, i, true)];
+        relabel(labels, second, first);
+        i += 1;
+    }
+}
+
+// All labels are node 0's.
+fn all_same(labels: &[u8]) -> bool
+    requires { ⌜ 1 ≤ length (now labels) ⌝ }
+    ensures { λ r. ⌜ r ≡ all (length (now (labels .entry))) (λ x. eqb (getD (now (labels .entry)) x 0) (getD (now (labels .entry)) 0 0)) ⌝ }
+{
+    let first = labels[0];
+    let mut same = true;
+    let mut x = 0;
+    while x < labels.len() {
+        same = same & (labels[x] == first);
+        x += 1;
+    }
+    same
+}
+
+// The labels of all nodes, worked out from the links, are the same.
+fn joined(labels: &mut [u8], upload: &[u8]) -> bool
+    requires { ⌜ (length (now labels) ≡ nodesOf (now upload)) × LinksInside (now upload) ⌝ }
+    ensures { λ r. ⌜ r ≡ onePiece (tableOf (now (upload .entry))) ⌝ }
+{
+    number_nodes(labels);
+    join_all(labels, upload);
+    all_same(labels)
+}
+
+// The table is in one piece.
+fn one_piece(upload: &[u8]) -> bool
+    requires { ⌜ LinksInside (now upload) ⌝ }
+    ensures { λ r. ⌜ r ≡ onePiece (tableOf (now (upload .entry))) ⌝ }
+{
+    let n = nodes(upload);
+    let mut labels = [0u8; 63];
+    joined(&mut labels[..n], upload)
+}
+
+// Check 8.
+fn piece_checked(upload: &[u8]) -> Checked
+    requires { ⌜ LinksInside (now upload) ⌝ }
+    ensures { λ r. ⌜ r ≡ answeredAt (now (upload .entry)) (pieceRefusal (now (upload .entry))) ⌝ }
+{
+    if one_piece(upload) {
+        Checked::Accepted {
+            n: nodes(upload),
+            m: links(upload),
+            a: actions(upload),
+        }
+    } else {
+        Checked::Refused {
+            number: 8,
+            place: 0,
+        }
+    }
+}
+
+// Checks 5 to 8.
+fn links_checked(upload: &[u8]) -> Checked
+    requires { ⌜ HeaderPasses (now upload) ⌝ }
+    ensures { λ r. ⌜ r ≡ answeredAt (now (upload .entry)) (linksThenPiece (now (upload .entry))) ⌝ }
+{
+    let m = links(upload);
+    let mut i = 0;
+    while i < m {
+        let number = link_number(upload, i);
+        if number != 0 {
+            return Checked::Refused {
+                number,
+                place: i as u16,
+            };
+        }
+        i += 1;
+    }
+    piece_checked(upload)
+}
+
+// Checks 3 to 8 of an upload, in the paper's order.
+pub fn check(upload: &[u8]) -> Checked
+    ensures { λ r. ⌜ r ≡ checked (now (upload .entry)) ⌝ }
+{
+    let len = upload.len();
+    if len < 4 {
+        return Checked::Refused {
+            number: 3,
+            place: 0,
+        };
+    }
+    let m = links(upload);
+    let a = actions(upload);
+    if !in_range(nodes(upload), m, a) {
+        return Checked::Refused {
+            number: 4,
+            place: 0,
+        };
+    }
+    if len != 4 + 2 * m + 3 * a {
+        return Checked::Refused {
+            number: 3,
+            place: 0,
+        };
+    }
+    links_checked(upload)
+}

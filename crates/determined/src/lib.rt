@@ -1,0 +1,1 @@
+// What it is for a contract to allow no second answer: a definition and laws, no code.

@@ -1,0 +1,18 @@
+use borrow.Author.Needs.{needs}
+use Rattle.image.proofs.Judged.{both-same}
+use Rattle.paper.specs.Image.{sound}
+use Rattle.image.proofs.sound.Statement.{statement}
+use Rattle.image.proofs.sound.Tie as tie
+
+nodes-sound-requires : tie.Need-nodes-sound-requires
+nodes-sound-requires c κs = search needs
+
+links-sound-requires : tie.Need-links-sound-requires
+links-sound-requires c κs = search needs
+
+returns : tie.Need-returns
+unfolding sound
+returns c = both-same _ _ (c .before .nodes-sound .ensures) (c .links-sound .ensures)
+
+pub sound-spec : {M : Type 1} → statement M
+sound-spec = tie.close (tie.spec nodes-sound-requires links-sound-requires returns)
