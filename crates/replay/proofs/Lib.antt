@@ -7,3 +7,4 @@ pub mod Stepped
 pub mod Replaying
 pub mod Replayed
 pub mod Unique
+pub mod Promises
