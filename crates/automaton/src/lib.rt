@@ -51,7 +51,7 @@ pub fn unheard_at(upload: &[u8], image: &[u8], x: usize) -> Unheard
 }
 
 // A node of link i: its first, or its second.
-fn end_node(upload: &[u8], i: usize, second: bool) -> usize
+pub fn end_node(upload: &[u8], i: usize, second: bool) -> usize
     requires { ⌜ Accepted (now upload) × (i < linksOf (now upload)) ⌝ }
     ensures { λ r. ⌜ (r ≡ tableOf (now (upload .entry)) .end i second) × (r < nodesOf (now (upload .entry))) ⌝ }
 {

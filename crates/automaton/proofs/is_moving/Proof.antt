@@ -1,6 +1,6 @@
-use Rattle.paper.specs.Report.{moving}
-use mathlib.Core.Path.{sym, _∙_}
 use borrow.Author.Needs.{needs}
+use mathlib.Core.Path.{sym, _∙_}
+use Rattle.paper.specs.Report.{moving}
 use Rattle.automaton.proofs.is_moving.Statement.{statement}
 use Rattle.automaton.proofs.is_moving.Tie as tie
 use Rattle.automaton.proofs.is_moving.Reads as reads

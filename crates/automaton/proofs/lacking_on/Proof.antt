@@ -1,10 +1,10 @@
+use borrow.Author.Needs.{needs}
+use Prim.Native.Nat.{_+_}
 use mathlib.Core.Path.{_≡_, ap₂}
 use mathlib.Core.Bool.{Bool}
-use Prim.Native.Nat.{_+_}
+use native.Mathlib.Omega.{arith}
 use Rattle.counting.specs.Count.{bit}
 use Rattle.counting.proofs.Bits.{bit-most}
-use native.Mathlib.Omega.{arith}
-use borrow.Author.Needs.{needs}
 use Rattle.automaton.proofs.lacking_on.Statement.{statement}
 use Rattle.automaton.proofs.lacking_on.Tie as tie
 use Rattle.automaton.proofs.lacking_on.Reads as reads

@@ -1,19 +1,19 @@
-use Rattle.automaton.proofs.More.{some-none, some-more, least-found, least-none}
+use borrow.Author.Needs.{needs}
+use Prim.Native.Nat.{ℕ, _-_, _≤_}
+use mathlib.Core.Bool.{false}
+use mathlib.Core.Path.{_≡_, sym, subst, _∙_}
+use native.Mathlib.Omega.{arith}
+use Rattle.counting.specs.Count.{some}
 use Rattle.paper.specs.Actions.{joins}
 use Rattle.paper.specs.Table.{tableOf}
 use Rattle.paper.specs.Upload.{linksOf}
-use Rattle.counting.specs.Count.{some}
-use mathlib.Core.Bool.{false}
-use mathlib.Core.Path.{_≡_, sym, subst, _∙_}
-use Prim.Native.Nat.{ℕ, _-_, _≤_}
-use native.Mathlib.Omega.{arith}
-use borrow.Author.Needs.{needs}
+use Rattle.upload.proofs.links.Reads as links-reads
+use Rattle.automaton.proofs.More.{some-none, some-more, least-found, least-none}
 use Rattle.automaton.proofs.link_between.Statement.{statement}
 use Rattle.automaton.proofs.link_between.Tie as tie
 use Rattle.automaton.proofs.link_between.Reads as reads
 use Rattle.automaton.proofs.link_between.Lts as lts
 use Rattle.automaton.proofs.joins_at.Reads as joins-at-reads
-use Rattle.upload.proofs.links.Reads as links-reads
 
 abbrev Inv-loop : tie.InvT-loop
 Inv-loop upload x y m i₀ i = (i ≤ m) × (m ≡ linksOf upload) × (some i (joins (tableOf upload) x y) ≡ false)

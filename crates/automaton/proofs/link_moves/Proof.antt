@@ -1,6 +1,6 @@
+use borrow.Author.Needs.{needs}
 use mathlib.Core.Bool.{_||_}
 use mathlib.Core.Path.{ap₂}
-use borrow.Author.Needs.{needs}
 use Rattle.automaton.proofs.link_moves.Statement.{statement}
 use Rattle.automaton.proofs.link_moves.Tie as tie
 use Rattle.automaton.proofs.link_moves.Reads as reads

@@ -1,19 +1,18 @@
-use Rattle.automaton.proofs.More.{some-none, some-more, some-end, least-found, least-none}
-use Rattle.automaton.specs.Tried.{shown}
-use Rattle.paper.specs.Table.{tableOf}
-use Rattle.paper.specs.Upload.{nodesOf}
-use Rattle.counting.specs.Count.{some}
+use borrow.Author.Needs.{needs}
+use Prim.Native.Nat.{_-_, _≤_, _<_}
 use mathlib.Core.Bool.{false}
 use mathlib.Core.Path.{_≡_, sym, _∙_}
-use Prim.Native.Nat.{ℕ, _-_, _≤_, _<_}
 use native.Mathlib.Omega.{arith}
-use borrow.Author.Needs.{needs}
+use Rattle.counting.specs.Count.{some}
+use Rattle.paper.specs.Upload.{nodesOf}
+use Rattle.upload.proofs.nodes.Reads as nodes-reads
+use Rattle.marks.proofs.root.Reads as root-reads
+use Rattle.automaton.specs.Tried.{shown}
+use Rattle.automaton.proofs.More.{some-none, some-more, some-end, least-found, least-none}
 use Rattle.automaton.proofs.lowest_root.Statement.{statement}
 use Rattle.automaton.proofs.lowest_root.Tie as tie
 use Rattle.automaton.proofs.lowest_root.Reads as reads
 use Rattle.automaton.proofs.lowest_root.Lts as lts
-use Rattle.marks.proofs.root.Reads as root-reads
-use Rattle.upload.proofs.nodes.Reads as nodes-reads
 
 abbrev Inv-loop : tie.InvT-loop
 Inv-loop upload image n x₀ x = (x ≤ n) × (n ≡ nodesOf upload) × (some x ((shown upload image) .root) ≡ false)

@@ -1,12 +1,12 @@
-use Rattle.automaton.proofs.Moves.{moves-at}
 use borrow.Author.Needs.{needs}
+use Rattle.marks.proofs.root.Reads as root-reads
+use Rattle.marks.proofs.waiting.Reads as waiting-reads
+use Rattle.automaton.proofs.Moves.{moves-at}
 use Rattle.automaton.proofs.node_moves.Statement.{statement}
 use Rattle.automaton.proofs.node_moves.Tie as tie
 use Rattle.automaton.proofs.node_moves.Reads as reads
 use Rattle.automaton.proofs.node_moves.Lts as lts
 use Rattle.automaton.proofs.unheard_at.Reads as unheard-at-reads
-use Rattle.marks.proofs.root.Reads as root-reads
-use Rattle.marks.proofs.waiting.Reads as waiting-reads
 
 -- src/lib.rt:263:17
 unheard-at-requires : tie.Need-unheard-at-requires

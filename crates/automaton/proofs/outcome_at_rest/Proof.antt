@@ -1,5 +1,4 @@
 use borrow.Author.Tests.{eq-eqb, ne-eqb}
-use borrow.Author.Needs.{needs}
 use Rattle.automaton.proofs.outcome_at_rest.Statement.{statement}
 use Rattle.automaton.proofs.outcome_at_rest.Tie as tie
 use Rattle.automaton.proofs.outcome_at_rest.Reads as reads

@@ -1,19 +1,19 @@
-use Rattle.automaton.proofs.More.{some-none, some-more, some-end, some-found}
-use Rattle.automaton.specs.Tried.{shown, linkMoves}
-use Rattle.paper.specs.Table.{tableOf}
-use Rattle.paper.specs.Upload.{linksOf}
-use Rattle.counting.specs.Count.{some}
+use borrow.Author.Needs.{needs}
+use Prim.Native.Nat.{_-_, _≤_, _<_}
 use mathlib.Core.Bool.{false}
 use mathlib.Core.Path.{_≡_, sym, _∙_}
-use Prim.Native.Nat.{ℕ, _-_, _≤_, _<_}
 use native.Mathlib.Omega.{arith}
-use borrow.Author.Needs.{needs}
+use Rattle.counting.specs.Count.{some}
+use Rattle.paper.specs.Table.{tableOf}
+use Rattle.paper.specs.Upload.{linksOf}
+use Rattle.upload.proofs.links.Reads as links-reads
+use Rattle.automaton.specs.Tried.{shown, linkMoves}
+use Rattle.automaton.proofs.More.{some-none, some-more, some-end, some-found}
 use Rattle.automaton.proofs.some_link_moves.Statement.{statement}
 use Rattle.automaton.proofs.some_link_moves.Tie as tie
 use Rattle.automaton.proofs.some_link_moves.Reads as reads
 use Rattle.automaton.proofs.some_link_moves.Lts as lts
 use Rattle.automaton.proofs.link_moves.Reads as link-moves-reads
-use Rattle.upload.proofs.links.Reads as links-reads
 
 abbrev Inv-loop : tie.InvT-loop
 Inv-loop upload image m i₀ i = (i ≤ m) × (m ≡ linksOf upload) × (some i (linkMoves (tableOf upload) (shown upload image)) ≡ false)

@@ -1,20 +1,20 @@
-use Rattle.automaton.proofs.More.{some-none, some-more, some-end, some-found}
-use Rattle.paper.specs.Report.{movesAt}
-use Rattle.automaton.specs.Tried.{shown}
-use Rattle.paper.specs.Table.{tableOf}
-use Rattle.paper.specs.Upload.{nodesOf}
-use Rattle.counting.specs.Count.{some}
+use borrow.Author.Needs.{needs}
+use Prim.Native.Nat.{_-_, _≤_, _<_}
 use mathlib.Core.Bool.{false}
 use mathlib.Core.Path.{_≡_, sym, _∙_}
-use Prim.Native.Nat.{ℕ, _-_, _≤_, _<_}
 use native.Mathlib.Omega.{arith}
-use borrow.Author.Needs.{needs}
+use Rattle.counting.specs.Count.{some}
+use Rattle.paper.specs.Report.{movesAt}
+use Rattle.paper.specs.Table.{tableOf}
+use Rattle.paper.specs.Upload.{nodesOf}
+use Rattle.upload.proofs.nodes.Reads as nodes-reads
+use Rattle.automaton.specs.Tried.{shown}
+use Rattle.automaton.proofs.More.{some-none, some-more, some-end, some-found}
 use Rattle.automaton.proofs.some_node_moves.Statement.{statement}
 use Rattle.automaton.proofs.some_node_moves.Tie as tie
 use Rattle.automaton.proofs.some_node_moves.Reads as reads
 use Rattle.automaton.proofs.some_node_moves.Lts as lts
 use Rattle.automaton.proofs.node_moves.Reads as node-moves-reads
-use Rattle.upload.proofs.nodes.Reads as nodes-reads
 
 abbrev Inv-loop : tie.InvT-loop
 Inv-loop upload image n x₀ x = (x ≤ n) × (n ≡ nodesOf upload) × (some x (movesAt (tableOf upload) (shown upload image)) ≡ false)

@@ -1,6 +1,6 @@
-use Rattle.automaton.proofs.Named.{tried-not}
-use Rattle.paper.specs.Actions.{reading}
 use borrow.Author.Needs.{needs}
+use Rattle.paper.specs.Actions.{reading}
+use Rattle.automaton.proofs.Named.{tried-not}
 use Rattle.automaton.proofs.try_action.Statement.{statement}
 use Rattle.automaton.proofs.try_action.Tie as tie
 use Rattle.automaton.proofs.try_action.Reads as reads

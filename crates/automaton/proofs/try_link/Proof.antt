@@ -1,22 +1,21 @@
-use native.Mathlib.Omega.{arith}
-use Rattle.automaton.proofs.Named.{tried-not}
 use borrow.Author.Tests.{lt-ltb, le-ltb}
+use borrow.Author.Needs.{needs}
+use mathlib.Core.Bool.{true, false, _&&_}
+use mathlib.Core.Path.{_≡_}
+use native.Mathlib.Omega.{arith}
+use lib.Dec.{ltb}
 use Rattle.paper.specs.Actions.{linkBetween}
 use Rattle.paper.specs.Table.{tableOf}
 use Rattle.paper.specs.Upload.{nodesOf, linksOf}
-use Prim.Native.Nat.{ℕ}
-use lib.Dec.{ltb, eqb}
-use mathlib.Core.Bool.{Bool, true, false, cond, _&&_}
-use mathlib.Core.Path.{_≡_, sym, ap, _∙_}
-use borrow.Author.Needs.{needs}
+use Rattle.upload.proofs.links.Reads as links-reads
+use Rattle.upload.proofs.nodes.Reads as nodes-reads
+use Rattle.automaton.proofs.Named.{tried-not}
 use Rattle.automaton.proofs.try_link.Statement.{statement}
 use Rattle.automaton.proofs.try_link.Tie as tie
 use Rattle.automaton.proofs.try_link.Reads as reads
 use Rattle.automaton.proofs.try_link.Lts as lts
 use Rattle.automaton.proofs.link_between.Reads as link-between-reads
 use Rattle.automaton.proofs.try_direction.Reads as try-direction-reads
-use Rattle.upload.proofs.links.Reads as links-reads
-use Rattle.upload.proofs.nodes.Reads as nodes-reads
 
 -- src/lib.rt:208:9
 nodes-requires : tie.Need-nodes-requires

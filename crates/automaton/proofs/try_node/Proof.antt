@@ -1,19 +1,18 @@
-use Rattle.automaton.proofs.Named.{both, tried-not, node-link, node-end}
-use Rattle.paper.specs.Upload.{nodesOf}
 use borrow.Author.Tests.{ltb-true}
-use native.Mathlib.Omega.{arith}
-use Prim.Native.Nat.{ℕ}
-use lib.Dec.{ltb, eqb}
-use mathlib.Core.Bool.{Bool, cond, _&&_, true, false}
-use mathlib.Core.Path.{_≡_, sym, ap, _∙_}
 use borrow.Author.Needs.{needs}
+use mathlib.Core.Bool.{_&&_, true, false}
+use mathlib.Core.Path.{_≡_}
+use native.Mathlib.Omega.{arith}
+use lib.Dec.{ltb, eqb}
+use Rattle.paper.specs.Upload.{nodesOf}
+use Rattle.upload.proofs.nodes.Reads as nodes-reads
+use Rattle.automaton.proofs.Named.{both, tried-not, tried-node}
 use Rattle.automaton.proofs.try_node.Statement.{statement}
 use Rattle.automaton.proofs.try_node.Tie as tie
 use Rattle.automaton.proofs.try_node.Reads as reads
 use Rattle.automaton.proofs.try_node.Lts as lts
 use Rattle.automaton.proofs.node_possible.Reads as node-possible-reads
 use Rattle.automaton.proofs.refused_unless.Reads as refused-unless-reads
-use Rattle.upload.proofs.nodes.Reads as nodes-reads
 
 -- src/lib.rt:175:13
 nodes-requires : tie.Need-nodes-requires
@@ -34,12 +33,9 @@ refused-unless-requires c κs = search needs
 returns : tie.Need-returns
 returns c =
     let at = c .before .before .before .before .before .before in
-    let read : (ltb (at .args .x) (nodesOf (at .args .upload .now)) && eqb (at .args .y) 255) ≡ true = rw (← c .before .before .before .nodes .ensures .0) (c .before .before .if1 .taken) in
-    rw read (record {
-      number = c .refused-unless .ensures ∙ ap (λ (p : Bool). cond p 0 11) (c .before .node-possible .ensures);
-      link = sym (node-link (at .args .kind) (at .args .x));
-      back = sym (node-end (at .args .kind) (at .args .x));
-    })
+    let read : (ltb (at .args .x) (nodesOf (at .args .upload .now)) && eqb (at .args .y) 255) ≡ true =
+    rw (← c .before .before .before .nodes .ensures .0) (c .before .before .if1 .taken) in
+    rw read (tried-node _ _ (at .args .kind) (at .args .x) (c .refused-unless .ensures) (c .before .node-possible .ensures))
 
 -- src/lib.rt:171:1
 returns-2 : tie.Need-returns-2

@@ -1,18 +1,18 @@
-use Rattle.automaton.proofs.More.{sum-more, sum-none}
-use Rattle.automaton.specs.Tried.{shown, lacking}
+use borrow.Author.Needs.{needs}
+use Prim.Native.Nat.{ℕ, _*_, _-_, _≤_}
+use mathlib.Core.Path.{_≡_, sym, ap, _∙_}
+use native.Mathlib.Omega.{arith}
+use Rattle.counting.specs.Count.{sum}
 use Rattle.paper.specs.Table.{tableOf}
 use Rattle.paper.specs.Upload.{linksOf}
-use Rattle.counting.specs.Count.{sum}
-use mathlib.Core.Path.{_≡_, sym, ap, _∙_}
-use Prim.Native.Nat.{ℕ, _+_, _*_, _-_, _≤_}
-use borrow.Author.Needs.{needs}
-use native.Mathlib.Omega.{arith}
+use Rattle.upload.proofs.links.Reads as links-reads
+use Rattle.automaton.specs.Tried.{shown, lacking}
+use Rattle.automaton.proofs.More.{sum-more, sum-none}
 use Rattle.automaton.proofs.unheard_at.Statement.{statement}
 use Rattle.automaton.proofs.unheard_at.Tie as tie
 use Rattle.automaton.proofs.unheard_at.Reads as reads
 use Rattle.automaton.proofs.unheard_at.Lts as lts
 use Rattle.automaton.proofs.lacking_on.Reads as lacking-on-reads
-use Rattle.upload.proofs.links.Reads as links-reads
 
 abbrev Inv-loop : tie.InvT-loop
 Inv-loop upload image x m count₀ i₀ count i =

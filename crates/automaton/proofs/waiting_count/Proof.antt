@@ -1,18 +1,18 @@
-use Rattle.automaton.proofs.More.{sum-none, sum-more, sum-end}
-use Rattle.automaton.specs.Tried.{shown}
-use Rattle.paper.specs.Upload.{nodesOf}
+use borrow.Author.Needs.{needs}
+use Prim.Native.Nat.{ℕ, _-_, _≤_}
+use mathlib.Core.Path.{_≡_, sym, ap, _∙_}
+use native.Mathlib.Omega.{arith}
 use Rattle.counting.proofs.Bits.{bit-most}
 use Rattle.counting.specs.Count.{sum, bit}
-use mathlib.Core.Path.{_≡_, sym, ap, _∙_}
-use Prim.Native.Nat.{ℕ, _-_, _≤_}
-use native.Mathlib.Omega.{arith}
-use borrow.Author.Needs.{needs}
+use Rattle.paper.specs.Upload.{nodesOf}
+use Rattle.upload.proofs.nodes.Reads as nodes-reads
+use Rattle.marks.proofs.waiting.Reads as waiting-reads
+use Rattle.automaton.specs.Tried.{shown}
+use Rattle.automaton.proofs.More.{sum-none, sum-more, sum-end}
 use Rattle.automaton.proofs.waiting_count.Statement.{statement}
 use Rattle.automaton.proofs.waiting_count.Tie as tie
 use Rattle.automaton.proofs.waiting_count.Reads as reads
 use Rattle.automaton.proofs.waiting_count.Lts as lts
-use Rattle.marks.proofs.waiting.Reads as waiting-reads
-use Rattle.upload.proofs.nodes.Reads as nodes-reads
 
 abbrev Inv-loop : tie.InvT-loop
 Inv-loop upload image n count₀ x₀ count x =

@@ -1,0 +1,30 @@
+use borrow.Author.Needs.{needs}
+use mathlib.Core.Path.{sym}
+use lib.Seq.{set-out}
+use Rattle.listing.proofs.put.Statement.{statement}
+use Rattle.listing.proofs.put.Tie as tie
+use Rattle.listing.proofs.put.Reads as reads
+use Rattle.listing.proofs.put.Lts as lts
+
+-- src/lib.rt:12:19
+cast-out : tie.Need-cast-out
+cast-out c = search needs
+
+-- src/lib.rt:12:9
+slice-write-out : tie.Need-slice-write-out
+slice-write-out c = search needs
+
+-- src/lib.rt:7:1
+same-length : tie.Need-same-length
+same-length c = search needs
+
+-- src/lib.rt:7:1
+returns : tie.Need-returns
+returns c = search needs
+
+-- src/lib.rt:7:1
+returns-2 : tie.Need-returns-2
+returns-2 c = sym (set-out _ _ _ (c .if1 .left))
+
+pub put-spec : {M : Type 1} → statement M
+put-spec = tie.close (tie.spec cast-out slice-write-out same-length returns returns-2)
