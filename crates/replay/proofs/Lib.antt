@@ -8,3 +8,4 @@ pub mod Replaying
 pub mod Replayed
 pub mod Unique
 pub mod Promises
+pub mod Listed

@@ -4,6 +4,7 @@ use Rattle.determined.specs.Determined.{Determined}
 use Rattle.determined.proofs.Equations.{same, lent, unlent}
 use Rattle.replay.proofs.fresh
 use Rattle.replay.proofs.report
+use Rattle.replay.proofs.list
 use Rattle.replay.proofs.step
 use Rattle.replay.proofs.replay
 
@@ -12,6 +13,9 @@ fresh-determined κs a pre z z′ w w′ p q = (same (p .0) (q .0), unlent (lent
 
 pub report-determined : Determined report.Kinds.ps report.Kinds.r report.Reads.Pre report.Reads.Learnt
 report-determined κs a pre z z′ w w′ p q = (same p q, refl)
+
+pub list-determined : Determined list.Kinds.ps list.Kinds.r list.Reads.Pre list.Reads.Learnt
+list-determined κs a pre z z′ w w′ p q = (same (p .0) (q .0), unlent (unlent (lent (p .1) (q .1) refl)))
 
 pub step-determined : Determined step.Kinds.ps step.Kinds.r step.Reads.Pre step.Reads.Learnt
 step-determined κs a pre z z′ w w′ p q = (same (p .0) (q .0), unlent (lent (p .1) (q .1) refl))

@@ -6,7 +6,7 @@ ghost use Rattle.paper.specs.Upload.{byteAt, actionsOf, actionAt};
 ghost use Rattle.paper.specs.Table.{tableOf};
 ghost use Rattle.paper.specs.Image.{imageLength, fits, sound, stateOf};
 ghost use Rattle.paper.specs.Refusals.{tableRefusal};
-ghost use Rattle.paper.specs.Calls.{refusedWith, reported, reportAnswer, freshAnswer, freshImage, stepAnswer, stepImage, replayed, replayAnswer};
+ghost use Rattle.paper.specs.Calls.{refusedWith, reported, reportAnswer, listAnswer, listBuffer, freshAnswer, freshImage, stepAnswer, stepImage, replayed, replayAnswer};
 ghost use Rattle.marks.specs.Lent.{Lent};
 ghost use Rattle.replay.specs.Taken.{Taken};
 ghost use Rattle.replay.specs.Replaying.{ReplayedTo};
@@ -93,6 +93,25 @@ pub fn report(upload: &[u8], image: &[u8]) -> paper::Answer
         return refused(12, 0);
     }
     reporting(upload, image, 0, 0, 0)
+}
+
+// List: the possible steps of a lent image, into a lent buffer.
+pub fn list(upload: &[u8], image: &[u8], buffer: &mut [u8]) -> paper::Answer
+    ensures { λ r. ⌜ r ≡ listAnswer (now (upload .entry)) (now (image .entry)) (now (buffer .entry)) ⌝ }
+    ensures { λ _. ⌜ now (buffer .exit) ≡ listBuffer (now (upload .entry)) (now (image .entry)) (now (buffer .entry)) ⌝ }
+{
+    let checked = table_answer(upload);
+    if checked.refusal != 0 {
+        return checked;
+    }
+    if !good_image(upload, image) {
+        return refused(12, 0);
+    }
+    if buffer.len() < 3 * listing::count_listed(upload, image) {
+        return refused(13, 0);
+    }
+    let count = listing::list(upload, image, buffer);
+    reporting(upload, image, 0, 0, count as u16)
 }
 
 // Fresh: makes the fresh image.
