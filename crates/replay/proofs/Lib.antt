@@ -9,3 +9,5 @@ pub mod Replayed
 pub mod Unique
 pub mod Promises
 pub mod Listed
+pub mod Running
+pub mod Singles
