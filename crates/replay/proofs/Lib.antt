@@ -11,3 +11,4 @@ pub mod Promises
 pub mod Listed
 pub mod Running
 pub mod Singles
+pub mod Advancing
