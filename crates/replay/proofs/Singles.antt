@@ -121,3 +121,94 @@ module _ (upload image : List ℕ) (h : tableRefusal upload .number ≡ 0) (g : 
         keeps-length = eq-eqb (length (stepImage upload image kind x y)) (imageLength t) (after .lent .fits);
         keeps-sound = after .isSound;
       }
+
+-- an image that single steps can be taken on: lent and sound
+good-image : (upload image : List ℕ) {s : State} → Holds upload image s → (fits (tableOf upload) image && sound (tableOf upload) image) ≡ true
+good-image upload image w =
+    and-both (eq-eqb (length image) (imageLength (tableOf upload)) (w .lent .fits)) (w .isSound)
+
+-- what the actions from i on come to, as single steps
+record Part (upload begin : List ℕ) (i k : ℕ) (w : Replayed) : Type 0 where
+  low : i ≤ w .steps
+  high : w .steps ≤ i + k
+  held : Holds upload (singles upload begin (w .steps)) (w .state)
+  taken : (j : ℕ) → i ≤ j → j < w .steps → singleRefusal upload (singles upload begin j) j ≡ 0
+  stopped : w .steps < i + k → (w .refusal .number ≡ singleRefusal upload (singles upload begin (w .steps)) (w .steps)) × (w .refusal .number ≡ 0 → ⊥)
+  all : w .steps ≡ i + k → w .refusal .number ≡ 0
+
+module _ (upload begin : List ℕ) (h : tableRefusal upload .number ≡ 0) where
+  -- action i on the image that the ones before it leave
+  number-at : (i : ℕ) {s : State} → Holds upload (singles upload begin i) s → singleRefusal upload (singles upload begin i) i ≡ refusedBy (tableOf upload) (stateOf (tableOf upload) (singles upload begin i)) (actionOf upload i)
+  number-at i w =
+      single-number upload (singles upload begin i) h (good-image upload (singles upload begin i) w) (byteAt upload (actionAt upload i)) (byteAt upload (actionAt upload i + 1)) (byteAt upload (actionAt upload i + 2))
+
+  next-holds : (i : ℕ) → Holds upload (singles upload begin i) (stateOf (tableOf upload) (singles upload begin i)) → refusedBy (tableOf upload) (stateOf (tableOf upload) (singles upload begin i)) (actionOf upload i) ≡ 0 → Holds upload (singles upload begin (suc i)) (stateAfter (tableOf upload) (stateOf (tableOf upload) (singles upload begin i)) (actionOf upload i))
+  unfolding singles
+  next-holds i w e =
+      subst (Holds upload (singles upload begin (suc i))) (next-taken upload (stateOf (tableOf upload) (singles upload begin i)) (byteAt upload (actionAt upload i)) (byteAt upload (actionAt upload i + 1)) (byteAt upload (actionAt upload i + 2)) e)
+      (single-holds upload (singles upload begin i) h (good-image upload (singles upload begin i) w) (byteAt upload (actionAt upload i)) (byteAt upload (actionAt upload i + 1)) (byteAt upload (actionAt upload i + 2)))
+
+  part : (k i : ℕ) (s : State) → Holds upload (singles upload begin i) s → Part upload begin i k (replayFrom upload s i k)
+  unfolding replayFrom
+  part zero i s w =
+      record {
+        low = omega arith;
+        high = omega arith;
+        held = w;
+        taken = λ j l g. absurd (omega arith);
+        stopped = λ l. absurd (omega arith);
+        all = λ e. refl;
+      }
+  part (suc k) i s w =
+      subst (λ (z : State). Part upload begin i (suc k) (replayFrom upload z i (suc k))) (w .shows)
+      (go (ℕ-discrete (refusedBy (tableOf upload) here (actionOf upload i)) 0) (part k (suc i)))
+    where
+      here : State
+      here = stateOf (tableOf upload) (singles upload begin i)
+
+      now : Holds upload (singles upload begin i) here
+      now = record { lent = w .lent; isSound = w .isSound; shows = refl }
+
+      go : Dec (refusedBy (tableOf upload) here (actionOf upload i) ≡ 0) → ((z : State) → Holds upload (singles upload begin (suc i)) z → Part upload begin (suc i) k (replayFrom upload z (suc i) k)) → Part upload begin i (suc k) (replayFrom upload here i (suc k))
+      go (yes e) later =
+          let next = stateAfter (tableOf upload) here (actionOf upload i) in
+          let p = later next (next-holds i now e) in
+          let low = p .low in
+          let high = p .high in
+          let taken : (j : ℕ) → i ≤ j → j < replayFrom upload next (suc i) k .steps → singleRefusal upload (singles upload begin j) j ≡ 0 = λ j l g. first-or-later j l g (ℕ-discrete i j) (p .taken) in
+          subst⁻¹ (Part upload begin i (suc k)) (replay-goes-on upload here i k e)
+          (record { low = omega arith; high = omega arith; held = p .held; taken = taken; stopped = λ l. p .stopped (omega arith); all = λ q. p .all (omega arith) })
+        where
+          first-or-later : (j : ℕ) → i ≤ j → {n : ℕ} → j < n → Dec (i ≡ j) → ((j : ℕ) → suc i ≤ j → j < n → singleRefusal upload (singles upload begin j) j ≡ 0) → singleRefusal upload (singles upload begin j) j ≡ 0
+          first-or-later j l g (yes q) rest = subst (λ (n : ℕ). singleRefusal upload (singles upload begin n) n ≡ 0) q (number-at i now ∙ e)
+          first-or-later j l g (no q) rest = rest j (omega arith) g
+      go (no e) later =
+          let said = number-at i now in
+          subst⁻¹ (Part upload begin i (suc k)) (replay-stops upload here i k e)
+          (record {
+            low = omega arith;
+            high = omega arith;
+            held = now;
+            taken = λ j l g. absurd (omega arith);
+            stopped = λ l. (sym said, e);
+            all = λ q. absurd (omega arith);
+          })
+
+-- the replay of an accepted upload, from any image that is made fresh
+pub replay-singles : (upload old : List ℕ) → tableRefusal upload .number ≡ 0 → fits (tableOf upload) old ≡ true → IsSingles upload (freshImage upload old)
+unfolding replayed singles
+replay-singles upload old h g =
+    let t = tableOf upload in
+    let begin = freshImage upload old in
+    let start = fresh-holds upload old begin (lent-fits upload old h g) (fresh-done-left upload old h g) in
+    let p = part upload begin h (actionsOf upload) 0 (fresh t) start in
+    let w = replayFrom upload (fresh t) 0 (actionsOf upload) in
+    let answer : replayAnswer upload .refusal ≡ w .refusal .number = ap (λ (a : Answer). a .refusal) (replay-done upload h) in
+    let most = p .high in
+    record {
+      taken = λ i l. p .taken i (omega arith) l;
+      image = sym (same-image upload (singles upload begin (w .steps)) (p .held .lent) (p .held .isSound) ∙ ap (imageOf t) (p .held .shows));
+      most = omega arith;
+      stopped = λ l. let (e, f) = p .stopped (omega arith) in (answer ∙ e, λ q. f (sym answer ∙ q));
+      all = λ q. answer ∙ p .all (omega arith);
+    }
