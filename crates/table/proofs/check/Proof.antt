@@ -1,7 +1,7 @@
 -- `check` meets its contract: each return is the refusal of the first check that refuses.
-use Prim.Native.Nat.{_+_, _*_}
 use mathlib.Core.Bool.{false}
 use mathlib.Core.Path.{_≡_, sym, _∙_}
+use native.Mathlib.Omega.{arith}
 use lib.Dec.{ltb}
 use lib.ListN.{length}
 use borrow.Author.Tests.{lt-ltb, le-ltb, ne-eqb, not-true, not-false}
@@ -15,7 +15,7 @@ use Rattle.table.proofs.check.Tie as tie
 
 returns : tie.Need-returns
 unfolding checked
-returns c = rw (refused-short _ (lt-ltb _ _ (c .if1 .taken)))
+returns c = rw (refused-short _ (lt-ltb (length (c .before .before .args .upload .now)) 4 (omega arith)))
 
 links-requires : tie.Need-links-requires
 links-requires c κs = search needs
@@ -31,7 +31,7 @@ in-range-requires c κs = search needs
 
 -- the upload is not under 4 bytes
 long : (c : tie.After-in-range) → ltb (length (c .before .before .before .before .before .before .args .upload .now)) 4 ≡ false
-long c = le-ltb _ _ (c .before .before .before .before .if1 .left)
+long c = le-ltb (length (c .before .before .before .before .before .before .args .upload .now)) 4 (omega arith)
 
 -- what `in_range` was asked is asked of the upload
 range : (c : tie.After-in-range) → c .in-range .result ≡ rangeOf (c .before .before .before .before .before .before .args .upload .now)
@@ -39,16 +39,12 @@ range c =
     c .in-range .ensures
     ∙ rw (c .before .nodes .ensures .0, c .before .before .actions .ensures .0, c .before .before .before .links .ensures .0)
 
--- the length that the code works out is the exact one
-sized : (c : tie.Else2) → 4 + 2 * c .before .before .before .before .links .result + 3 * c .before .before .before .actions .result ≡ exactLength (c .before .before .before .before .before .before .before .args .upload .now)
-sized c = rw (c .before .before .before .before .links .ensures .0, c .before .before .before .actions .ensures .0)
-
 -- the header passes
 passed : (c : tie.Else3) → HeaderPasses (c .before .before .before .before .before .before .before .before .args .upload .now)
 passed c =
     record {
       range = tells-range _ .yields (sym (range (c .before .before)) ∙ not-false _ (c .before .if2 .left));
-      exact = c .if3 .left ∙ sized (c .before);
+      exact = omega arith;
     }
 
 returns-2 : tie.Need-returns-2
@@ -72,7 +68,10 @@ returns-3 : tie.Need-returns-3
 unfolding checked
 returns-3 c =
     let at = c .before .before in
-    rw (refused-length _ (long at) (sym (range at) ∙ not-false _ (c .before .if2 .left)) (ne-eqb _ _ (λ e. c .if3 .taken (e ∙ sym (sized (c .before))))))
+    let upload = at .before .before .before .before .before .before .args .upload .now in
+    let off : length upload ≡ exactLength upload → ⊥ = λ e. c .if3 .taken (omega arith) in
+    rw
+    (refused-length upload (long at) (sym (range at) ∙ not-false _ (c .before .if2 .left)) (ne-eqb _ _ off))
 
 links-checked-requires : tie.Need-links-checked-requires
 links-checked-requires c κs = passed c
