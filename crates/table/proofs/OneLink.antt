@@ -1,7 +1,7 @@
 -- One link tried for 5, 6 and 7: its refusal in plain terms.
-use Prim.Native.Nat.{ℕ, zero, _<_}
+use Prim.Native.Nat.{ℕ, _<_}
 use mathlib.Core.Bool.{Bool, true, false}
-use mathlib.Core.Path.{_≡_, refl, ap}
+use mathlib.Core.Path.{_≡_, refl}
 use mathlib.Core.List.{[], _∷_}
 use native.Mathlib.Decide.{decLt}
 use native.Mathlib.Omega.{arith}
@@ -10,7 +10,7 @@ use Rattle.paper.specs.Table.{Table}
 use Rattle.paper.specs.Refusals.{Refusal, given, first, namesNoNode, joinsItself, repeats, linkRefusal}
 use Rattle.table.specs.Checked.{linkNumber}
 use Rattle.table.specs.ExactlyWhen.{NamesNoNode, JoinsItself, Repeats, LinkPasses}
-use Rattle.table.proofs.Tells.{Tells, holds, fails, decided, tells-names, tells-itself, tells-repeats}
+use Rattle.table.proofs.Tells.{holds, fails, decided, tells-names, tells-itself, tells-repeats}
 
 -- the three tests of a link in their order
 abbrev tried : Bool → Bool → Bool → ℕ → Refusal

@@ -6,7 +6,7 @@ use mathlib.Core.List.{List, [], _∷_}
 use lib.ListN.{length}
 use lib.Dec.{eqb}
 use Rattle.paper.specs.Upload.{nodesOf, linksOf, actionsOf, exactLength}
-use Rattle.paper.specs.Table.{Table, tableOf, EndsBelow, onePiece}
+use Rattle.paper.specs.Table.{tableOf, EndsBelow, onePiece}
 use Rattle.paper.specs.Refusals.{Refusal, first, given, linksRefusal, tableRefusal}
 use Rattle.table.specs.declared.Checked.{Checked}
 use Rattle.table.specs.declared.Checked.the-variants.{Accepted, Refused}
