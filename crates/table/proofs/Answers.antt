@@ -1,5 +1,5 @@
 -- The refusal of an upload at each place where the checks end, and the answer that it gives.
-use Prim.Native.Nat.{ℕ, _+_, _≤_, _<_}
+use Prim.Native.Nat.{ℕ, _<_}
 use mathlib.Core.Bool.{Bool, true, false, not}
 use mathlib.Core.Path.{_≡_, refl, ap, _∙_}
 use mathlib.Core.List.{List, [], _∷_}
@@ -10,9 +10,8 @@ use borrow.Author.Tests.{ne-eqb, eq-eqb, le-ltb}
 use Rattle.paper.specs.Upload.{nodesOf, linksOf, actionsOf, exactLength}
 use Rattle.paper.specs.Table.{tableOf, EndsBelow, onePiece}
 use Rattle.paper.specs.Refusals.{Refusal, first, given, inRange, linkRefusal, linksRefusal, refusal, tableRefusal}
-use Rattle.table.specs.declared.Checked.{Checked}
 use Rattle.table.specs.declared.Checked.the-variants.{Refused}
-use Rattle.table.specs.Checked.{answeredAt, pieceRefusal, linksThenPiece, HeaderPasses, LinksInside, pick}
+use Rattle.table.specs.Checked.{answeredAt, pieceRefusal, linksThenPiece, HeaderPasses}
 use Rattle.table.proofs.Tells.{holds, tells-range}
 use Rattle.table.proofs.OneLink.{link-place, link-passed, passed-ends}
 use Rattle.table.proofs.Order.{Clear, first-skip, first-stop, links-at, links-clear}

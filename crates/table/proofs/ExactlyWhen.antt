@@ -1,8 +1,7 @@
 -- Each refusal of the table is given exactly when document 01 says so, with the place that it says.
 use Prim.Native.Nat.{ℕ, _+_, _≤_, _<_}
-use mathlib.Core.Bool.{Bool, true, false, not}
-use mathlib.Core.Path.{_≡_, refl, sym, ap, subst, subst₂, _∙_}
-use mathlib.Core.Logic.{_⊎_, inl, inr, _↔_}
+use mathlib.Core.Path.{_≡_, refl, sym, ap, subst₂, _∙_}
+use mathlib.Core.Logic.{_⊎_, inl, inr}
 use mathlib.Core.List.{List}
 use native.Mathlib.Omega.{arith}
 use native.Mathlib.Decide.{decLt, decLe, ℕ-discrete}
@@ -12,7 +11,7 @@ use Rattle.paper.specs.Upload.{nodesOf, linksOf, actionsOf, exactLength}
 use Rattle.paper.specs.Table.{tableOf, OnePiece, onePiece}
 use Rattle.paper.specs.Refusals.{Refusal, tableRefusal, linkRefusal}
 use Rattle.table.specs.Checked.{InRange, HeaderPasses, pieceRefusal}
-use Rattle.table.specs.ExactlyWhen.{OutOfRange, noNode, manyNodes, manyLinks, manyActions, WrongLength, under, inexact, NamesNoNode, JoinsItself, Repeats, LinkPasses, LinksPass, Reaches, AllLinksPass, Given, ExactlyWhen}
+use Rattle.table.specs.ExactlyWhen.{OutOfRange, noNode, manyNodes, manyLinks, manyActions, WrongLength, under, inexact, NamesNoNode, JoinsItself, Repeats, LinksPass, Reaches, AllLinksPass, Given, ExactlyWhen}
 use Rattle.table.proofs.Tells.{holds, fails, decided, tells-range, tells-pieces}
 use Rattle.table.proofs.OneLink.{Why, named, itself, again, passing, why, link-names, link-itself, link-repeats, link-passes, link-passed}
 use Rattle.table.proofs.Order.{Clear, Found, links-search}

@@ -6,7 +6,6 @@ use mathlib.Core.List.{List}
 use mathlib.Core.Logic.{_⊎_, inl, inr}
 use native.Mathlib.Omega.{arith}
 use native.Mathlib.Decide.{decLt, ℕ-discrete}
-use lib.ListN.{length}
 use lib.Dec.{ltb, leb, eqb}
 use borrow.Author.Tests.{ltb-true, ltb-false, leb-true, leb-false, eqb-true, eqb-false}
 use Rattle.counting.specs.Count.{some}
@@ -16,7 +15,7 @@ use Rattle.paper.specs.Actions.{joins}
 use Rattle.paper.specs.Refusals.{inRange, namesNoNode, joinsItself, repeats}
 use Rattle.paper.proofs.OnePiece.{one-piece, one-piece-back}
 use Rattle.table.specs.Checked.{InRange}
-use Rattle.table.specs.ExactlyWhen.{OutOfRange, noNode, manyNodes, manyLinks, manyActions, NamesNoNode, JoinsItself, Repeats}
+use Rattle.table.specs.ExactlyWhen.{NamesNoNode, JoinsItself, Repeats}
 
 -- a test is true where P holds, and false where it doesn't
 pub record Tells (b : Bool) (P : Type 0) : Type 0 where

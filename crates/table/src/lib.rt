@@ -10,7 +10,7 @@ ghost use Rattle.paper.specs.Table.{tableOf, onePiece};
 ghost use Rattle.paper.specs.Actions.{joins};
 ghost use Rattle.paper.specs.Refusals.{inRange, repeats, linkRefusal};
 ghost use Rattle.table.specs.Labels.{Labelled, Rewritten, ownNumber, renamed};
-ghost use Rattle.table.specs.Checked.{checked, answeredAt, pieceRefusal, linksThenPiece, HeaderPasses, LinksInside};
+ghost use Rattle.table.specs.Checked.{checked, linkNumber, answeredAt, pieceRefusal, linksThenPiece, HeaderPasses, LinksInside};
 
 // The answer of the reader.
 pub enum Checked {
@@ -91,6 +91,22 @@ fn repeats(upload: &[u8], i: usize) -> bool
     found
 }
 
+// The number by which a link is refused: 5, 6 and 7 in turn, 0 where none of the tests holds.
+fn link_verdict(unnamed: bool, itself: bool, again: bool) -> u8
+    ensures { λ r. ⌜ r ≡ linkNumber unnamed itself again ⌝ }
+{
+    if unnamed {
+        return 5;
+    }
+    if itself {
+        return 6;
+    }
+    if again {
+        return 7;
+    }
+    0
+}
+
 // The number by which link i is refused, 0 where it passes.
 fn link_number(upload: &[u8], i: usize) -> u8
     requires { ⌜ linkAt i + 1 < length (now upload) ⌝ }
@@ -99,16 +115,7 @@ fn link_number(upload: &[u8], i: usize) -> u8
     let n = nodes(upload);
     let p = end(upload, i, false);
     let q = end(upload, i, true);
-    if !((p < n) & (q < n)) {
-        return 5;
-    }
-    if p == q {
-        return 6;
-    }
-    if repeats(upload, i) {
-        return 7;
-    }
-    0
+    link_verdict(!((p < n) & (q < n)), p == q, repeats(upload, i))
 }
 
 // Every node has its own number as label.
@@ -147,12 +154,12 @@ fn join_all(labels: &mut [u8], upload: &[u8])
     ensures { λ r. ⌜ Labelled (tableOf (now (upload .entry))) (linksOf (now (upload .entry))) (now (labels .exit)) ⌝ }
 {
     let m = links(upload);
-    let mut i = 0;
-    while i < m {
-        let first = labels[end(upload, i, false)];
-        let second = labels[end(upload, i, true)];
+    let mut k = 0;
+    while k < m {
+        let first = labels[end(upload, k, false)];
+        let second = labels[end(upload, k, true)];
         relabel(labels, second, first);
-        i += 1;
+        k += 1;
     }
 }
 
@@ -210,6 +217,17 @@ fn piece_checked(upload: &[u8]) -> Checked
     }
 }
 
+// A link is refused at its own number.
+fn refused(number: u8, link: usize) -> Checked
+    requires { ⌜ link < 256 ⌝ }
+    ensures { λ r. ⌜ r ≡ Checked.Refused number link ⌝ }
+{
+    Checked::Refused {
+        number,
+        place: link as u16,
+    }
+}
+
 // Checks 5 to 8.
 fn links_checked(upload: &[u8]) -> Checked
     requires { ⌜ HeaderPasses (now upload) ⌝ }
@@ -220,10 +238,7 @@ fn links_checked(upload: &[u8]) -> Checked
     while i < m {
         let number = link_number(upload, i);
         if number != 0 {
-            return Checked::Refused {
-                number,
-                place: i as u16,
-            };
+            return refused(number, i);
         }
         i += 1;
     }

@@ -1,20 +1,16 @@
+-- `byte` meets its contract: a byte of a slice is below 256.
 use mathlib.Core.Path.{refl}
 use native.Mathlib.Omega.{arith}
 use borrow.Author.Needs.{needs}
 use Rattle.table.proofs.byte.Statement.{statement}
 use Rattle.table.proofs.byte.Tie as tie
-use Rattle.table.proofs.byte.Reads as reads
-use Rattle.table.proofs.byte.Lts as lts
 
--- src/lib.rt:25:5
 shared-slice-read-result : tie.Need-shared-slice-read-result
 shared-slice-read-result c = search needs
 
--- src/lib.rt:25:5
 cast-result : tie.Need-cast-result
 cast-result c = omega (arith, c .shared-slice-known .given (c .before .args .i))
 
--- src/lib.rt:21:1
 returns : tie.Need-returns
 returns c = (refl, c .shared-slice-known .given (c .before .args .i) .fits)
 

@@ -1,3 +1,4 @@
+-- `links_checked` meets its contract. The loop's invariant: the links below i pass.
 use Prim.Native.Nat.{_≤_, _-_}
 use mathlib.Core.Path.{_≡_, sym, ap, _∙_}
 use native.Mathlib.Omega.{arith}
@@ -9,11 +10,6 @@ use Rattle.table.proofs.Order.{Clear, clear-more}
 use Rattle.table.proofs.Answers.{answered-link, passed-links, clear-ends}
 use Rattle.table.proofs.links_checked.Statement.{statement}
 use Rattle.table.proofs.links_checked.Tie as tie
-use Rattle.table.proofs.links_checked.Reads as reads
-use Rattle.table.proofs.links_checked.Lts as lts
-use Rattle.table.proofs.link_number.Reads as link-number-reads
-use Rattle.table.proofs.links.Reads as links-reads
-use Rattle.table.proofs.piece_checked.Reads as piece-checked-reads
 
 abbrev Inv-loop : tie.InvT-loop
 Inv-loop upload m i₀ i = (i ≤ m) × Clear (tableOf upload) 0 i
@@ -21,47 +17,41 @@ Inv-loop upload m i₀ i = (i ≤ m) × Clear (tableOf upload) 0 i
 abbrev μ-loop : tie.MeasureT-loop
 μ-loop upload m i₀ i = m - i
 
--- src/lib.rt:207:9
 links-requires : tie.Need-links-requires Inv-loop μ-loop
 links-requires c κs = search needs
 
--- src/lib.rt:209:5
 loop-holds : tie.Need-loop-holds Inv-loop μ-loop
 loop-holds c = (search needs, λ l p q. absurd (omega arith))
 
--- src/lib.rt:210:13
 link-number-requires : tie.Need-link-number-requires Inv-loop μ-loop
 link-number-requires c κs = search needs
 
--- src/lib.rt:214:24
-cast-t6 : tie.Need-cast-t6 Inv-loop μ-loop
-cast-t6 c = search needs
+refused-requires : tie.Need-refused-requires Inv-loop μ-loop
+refused-requires c κs = search needs
 
--- src/lib.rt:212:13
 returns : tie.Need-returns Inv-loop μ-loop
 returns c =
-    let at = c .before .before .before in
+    let at = c .before .before .before .before in
     let upload = at .before .before .before .args .upload .now in
-    let number = c .before .link-number .ensures in
-    rw number
-    (sym (answered-link upload (at .loop .i) (omega arith) (at .loop .inv .1) (λ e. c .if1 .taken (number ∙ e))))
+    let number = c .before .before .link-number .ensures in
+    c .refused .ensures
+    ∙ rw number
+    (sym (answered-link upload (at .loop .i) (omega arith) (at .loop .inv .1) (λ e. c .before .if1 .taken (number ∙ e))))
 
--- src/lib.rt:217:9
 add-i : tie.Need-add-i Inv-loop μ-loop
 add-i c = search needs
 
--- src/lib.rt:209:5
 loop-less : tie.Need-loop-less Inv-loop μ-loop
 loop-less c = search needs
 
--- src/lib.rt:209:5
 loop-again : tie.Need-loop-again Inv-loop μ-loop
 loop-again c =
     let at = c .before .before .before in
-    let upload = at .before .before .before .args .upload .now in
-    (search needs, clear-more (tableOf upload) _ _ (at .loop .inv .1) (sym (c .before .link-number .ensures) ∙ c .if1 .left))
+    let upload = at .before .before .before .args .upload .now in (
+      search needs,
+      clear-more (tableOf upload) _ _ (at .loop .inv .1) (sym (c .before .link-number .ensures) ∙ c .if1 .left),
+    )
 
--- src/lib.rt:219:5
 piece-checked-requires : tie.Need-piece-checked-requires Inv-loop μ-loop
 piece-checked-requires c κs =
     let at = c .before in
@@ -70,7 +60,6 @@ piece-checked-requires c κs =
     let done : at .loop .i ≡ linksOf upload = omega arith in
     record { header = start .pre; ends = clear-ends upload (rw done at (at .loop .inv .1)) }
 
--- src/lib.rt:203:1
 returns-2 : tie.Need-returns-2 Inv-loop μ-loop
 returns-2 c =
     let at = c .before .before in
@@ -87,7 +76,7 @@ links-checked-spec =
     links-requires
     loop-holds
     link-number-requires
-    cast-t6
+    refused-requires
     returns
     add-i
     loop-less
