@@ -5,7 +5,7 @@ ghost use Prim.Native.Nat.{_+_, _<_, _≤_};
 ghost use lib.ListN.{length, getD};
 ghost use lib.Dec.{eqb};
 ghost use Rattle.counting.specs.Count.{all};
-ghost use Rattle.paper.specs.Upload.{byteAt, nodesOf, linksOf, actionsOf, linkAt};
+ghost use Rattle.paper.specs.Upload.{nodesOf, linksOf, linkAt};
 ghost use Rattle.paper.specs.Table.{tableOf, onePiece};
 ghost use Rattle.paper.specs.Actions.{joins};
 ghost use Rattle.paper.specs.Refusals.{inRange, repeats, linkRefusal};
@@ -18,46 +18,6 @@ pub enum Checked {
     Refused { number: u8, place: u16 },
 }
 
-// The byte at a place, as a number.
-pub fn byte(s: &[u8], i: usize) -> usize
-    requires { ⌜ i < length (now s) ⌝ }
-    ensures { λ r. ⌜ (r ≡ byteAt (now (s .entry)) i) × (r < 256) ⌝ }
-{
-    s[i] as usize
-}
-
-// n, the number of nodes.
-pub fn nodes(upload: &[u8]) -> usize
-    requires { ⌜ 4 ≤ length (now upload) ⌝ }
-    ensures { λ r. ⌜ (r ≡ nodesOf (now (upload .entry))) × (r < 256) ⌝ }
-{
-    byte(upload, 0)
-}
-
-// m, the number of links.
-pub fn links(upload: &[u8]) -> usize
-    requires { ⌜ 4 ≤ length (now upload) ⌝ }
-    ensures { λ r. ⌜ (r ≡ linksOf (now (upload .entry))) × (r < 256) ⌝ }
-{
-    byte(upload, 1)
-}
-
-// a, the number of actions.
-pub fn actions(upload: &[u8]) -> usize
-    requires { ⌜ 4 ≤ length (now upload) ⌝ }
-    ensures { λ r. ⌜ (r ≡ actionsOf (now (upload .entry))) × (r < 65536) ⌝ }
-{
-    256 * byte(upload, 2) + byte(upload, 3)
-}
-
-// The first node of link i, or its second.
-pub fn end(upload: &[u8], i: usize, second: bool) -> usize
-    requires { ⌜ linkAt i + 1 < length (now upload) ⌝ }
-    ensures { λ r. ⌜ (r ≡ tableOf (now (upload .entry)) .end i second) × (r < 256) ⌝ }
-{
-    byte(upload, 4 + 2 * i + (second as usize))
-}
-
 // n, m and a are in range.
 fn in_range(n: usize, m: usize, a: usize) -> bool
     ensures { λ r. ⌜ r ≡ inRange n m a ⌝ }
@@ -67,21 +27,21 @@ fn in_range(n: usize, m: usize, a: usize) -> bool
 
 // Link i joins x and y, either way round.
 fn joins(upload: &[u8], x: usize, y: usize, i: usize) -> bool
-    requires { ⌜ linkAt i + 1 < length (now upload) ⌝ }
+    requires { ⌜ linkAt i + 2 ≤ length (now upload) ⌝ }
     ensures { λ r. ⌜ r ≡ joins (tableOf (now (upload .entry))) x y i ⌝ }
 {
-    let p = end(upload, i, false);
-    let q = end(upload, i, true);
+    let p = upload::end(upload, i, false);
+    let q = upload::end(upload, i, true);
     ((p == x) & (q == y)) | ((p == y) & (q == x))
 }
 
 // Link i repeats an earlier one.
 fn repeats(upload: &[u8], i: usize) -> bool
-    requires { ⌜ linkAt i + 1 < length (now upload) ⌝ }
+    requires { ⌜ linkAt i + 2 ≤ length (now upload) ⌝ }
     ensures { λ r. ⌜ r ≡ repeats (tableOf (now (upload .entry))) i ⌝ }
 {
-    let x = end(upload, i, false);
-    let y = end(upload, i, true);
+    let x = upload::end(upload, i, false);
+    let y = upload::end(upload, i, true);
     let mut found = false;
     let mut j = 0;
     while j < i {
@@ -109,12 +69,12 @@ fn link_verdict(unnamed: bool, itself: bool, again: bool) -> u8
 
 // The number by which link i is refused, 0 where it passes.
 fn link_number(upload: &[u8], i: usize) -> u8
-    requires { ⌜ linkAt i + 1 < length (now upload) ⌝ }
+    requires { ⌜ linkAt i + 2 ≤ length (now upload) ⌝ }
     ensures { λ r. ⌜ r ≡ linkRefusal (tableOf (now (upload .entry))) i .number ⌝ }
 {
-    let n = nodes(upload);
-    let p = end(upload, i, false);
-    let q = end(upload, i, true);
+    let n = upload::nodes(upload);
+    let p = upload::end(upload, i, false);
+    let q = upload::end(upload, i, true);
     link_verdict(!((p < n) & (q < n)), p == q, repeats(upload, i))
 }
 
@@ -153,11 +113,11 @@ fn join_all(labels: &mut [u8], upload: &[u8])
     requires { ⌜ Labelled (tableOf (now upload)) 0 (now labels) × LinksInside (now upload) ⌝ }
     ensures { λ r. ⌜ Labelled (tableOf (now (upload .entry))) (linksOf (now (upload .entry))) (now (labels .exit)) ⌝ }
 {
-    let m = links(upload);
+    let m = upload::links(upload);
     let mut k = 0;
     while k < m {
-        let first = labels[end(upload, k, false)];
-        let second = labels[end(upload, k, true)];
+        let first = labels[upload::end(upload, k, false)];
+        let second = labels[upload::end(upload, k, true)];
         relabel(labels, second, first);
         k += 1;
     }
@@ -193,7 +153,7 @@ fn one_piece(upload: &[u8]) -> bool
     requires { ⌜ LinksInside (now upload) ⌝ }
     ensures { λ r. ⌜ r ≡ onePiece (tableOf (now (upload .entry))) ⌝ }
 {
-    let n = nodes(upload);
+    let n = upload::nodes(upload);
     let mut labels = [0u8; 63];
     joined(&mut labels[..n], upload)
 }
@@ -205,9 +165,9 @@ fn piece_checked(upload: &[u8]) -> Checked
 {
     if one_piece(upload) {
         Checked::Accepted {
-            n: nodes(upload),
-            m: links(upload),
-            a: actions(upload),
+            n: upload::nodes(upload),
+            m: upload::links(upload),
+            a: upload::actions(upload),
         }
     } else {
         Checked::Refused {
@@ -233,7 +193,7 @@ fn links_checked(upload: &[u8]) -> Checked
     requires { ⌜ HeaderPasses (now upload) ⌝ }
     ensures { λ r. ⌜ r ≡ answeredAt (now (upload .entry)) (linksThenPiece (now (upload .entry))) ⌝ }
 {
-    let m = links(upload);
+    let m = upload::links(upload);
     let mut i = 0;
     while i < m {
         let number = link_number(upload, i);
@@ -256,9 +216,9 @@ pub fn check(upload: &[u8]) -> Checked
             place: 0,
         };
     }
-    let m = links(upload);
-    let a = actions(upload);
-    if !in_range(nodes(upload), m, a) {
+    let m = upload::links(upload);
+    let a = upload::actions(upload);
+    if !in_range(upload::nodes(upload), m, a) {
         return Checked::Refused {
             number: 4,
             place: 0,
