@@ -1,14 +1,14 @@
 -- One piece: the labels worked out from the links say exactly which nodes a path of links joins.
 use Prim.Native.Nat.{ℕ, zero, suc, _<_, _≤_}
-use mathlib.Core.Bool.{Bool, true, false, not, cond, true≢false}
+use mathlib.Core.Bool.{Bool, true, false, not, cond, true≢false, Bool·not-not}
 use mathlib.Core.Path.{_≡_, refl, sym, ap, subst, _∙_}
 use lib.Dec.{eqb}
 use borrow.Author.Tests.{eqb-true, eq-eqb}
 use native.Mathlib.Omega.{arith}
 use native.Mathlib.Decide.{ℕ-discrete}
+use Rattle.counting.proofs.Tests.{all-true, all-holds}
 use Rattle.paper.specs.Table.{Table, Joined, here, along, OnePiece, labels, onePiece}
 use Rattle.paper.specs.Meanings.{LeftByLink, Cut}
-use Rattle.paper.proofs.Tests.{not-not, all-true, all-holds}
 
 pub joined-trans : {t : Table} {x y z : ℕ} → Joined t x y → Joined t y z → Joined t x z
 joined-trans p here = p
@@ -16,7 +16,7 @@ joined-trans p (along q i b h s e) = along (joined-trans p q) i b h s e
 
 pub joined-sym : {t : Table} {x y : ℕ} → Joined t x y → Joined t y x
 joined-sym here = here
-joined-sym {t} (along p i b h s e) = joined-trans (along here i (not b) h e (ap (t .end i) (not-not b) ∙ s)) (joined-sym p)
+joined-sym {t} (along p i b h s e) = joined-trans (along here i (not b) h e (ap (t .end i) (Bool·not-not b) ∙ s)) (joined-sym p)
 
 joined-to : {t : Table} {x y z : ℕ} → y ≡ z → Joined t x y → Joined t x z
 joined-to {t} {x} e p = subst (Joined t x) e p

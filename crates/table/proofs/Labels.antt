@@ -10,9 +10,9 @@ use lib.Dec.{eqb}
 use mathlib.Core.Bool.{true, false}
 use native.Mathlib.Numerals.{add-one}
 use Rattle.counting.specs.Count.{all}
+use Rattle.counting.proofs.Tests.{all-alike}
 use Rattle.paper.specs.Table.{Table, EndsBelow, labels, onePiece}
 use Rattle.table.specs.Labels.{Labelled, Rewritten, ownNumber, renamed}
-use Rattle.table.proofs.Tests.{all-alike}
 
 -- the bytes below k are rewritten, the others are as they were
 pub record Reached (f : ℕ → ℕ → ℕ) (before : List ℕ) (k : ℕ) (after : List ℕ) : Type 0 where

@@ -1,4 +1,3 @@
-pub mod Tests
 pub mod Labels
 pub mod Tells
 pub mod OneLink

@@ -6,7 +6,7 @@ use lib.ListN.{length, getD}
 use lib.Dec.{eqb}
 use borrow.Author.Needs.{needs}
 use Rattle.counting.specs.Count.{all}
-use Rattle.table.proofs.Tests.{all-none, all-more}
+use Rattle.counting.proofs.Tests.{all-empty, all-more}
 use Rattle.table.proofs.all_same.Statement.{statement}
 use Rattle.table.proofs.all_same.Tie as tie
 
@@ -20,7 +20,7 @@ shared-slice-read-first : tie.Need-shared-slice-read-first Inv-loop μ-loop
 shared-slice-read-first c = search needs
 
 loop-holds : tie.Need-loop-holds Inv-loop μ-loop
-loop-holds c = (search needs, sym (all-none _))
+loop-holds c = (search needs, sym (all-empty _))
 
 shared-slice-read-same : tie.Need-shared-slice-read-same Inv-loop μ-loop
 shared-slice-read-same c = search needs

@@ -4,9 +4,9 @@ use mathlib.Core.Path.{_≡_, sym}
 use native.Mathlib.Omega.{arith}
 use borrow.Author.Needs.{needs}
 use Rattle.counting.specs.Count.{some}
+use Rattle.counting.proofs.Tests.{some-empty, some-more}
 use Rattle.paper.specs.Table.{tableOf}
 use Rattle.paper.specs.Actions.{joins}
-use Rattle.table.proofs.Tests.{some-none, some-more}
 use Rattle.table.proofs.repeats.Statement.{statement}
 use Rattle.table.proofs.repeats.Tie as tie
 
@@ -23,7 +23,7 @@ end-requires-2 : tie.Need-end-requires-2 Inv-loop μ-loop
 end-requires-2 c κs = search needs
 
 loop-holds : tie.Need-loop-holds Inv-loop μ-loop
-loop-holds c = (search needs, sym (some-none _))
+loop-holds c = (search needs, sym (some-empty _))
 
 joins-requires : tie.Need-joins-requires Inv-loop μ-loop
 joins-requires c κs = search needs
