@@ -1,7 +1,7 @@
 -- The order of the checks: the first refusal of a list, and the first link that is refused.
 use Prim.Native.Nat.{ℕ, zero, suc, _+_, _≤_, _<_}
 use mathlib.Core.Bool.{cond}
-use mathlib.Core.Path.{_≡_, refl, sym, ap, subst, _∙_}
+use mathlib.Core.Path.{_≡_, refl, ap, subst, _∙_}
 use mathlib.Core.List.{List, [], _∷_}
 use mathlib.Core.Logic.{_⊎_, inl, inr}
 use native.Mathlib.Omega.{arith}
@@ -92,11 +92,3 @@ module _ (t : Table) where
       go (yes e) (inl all) = inl (λ l p q. here l p (λ r. all l r (omega arith)) e)
       go (yes e) (inr f) =
           inr (record { place = f .place; from = omega (arith, f .from); below = omega (arith, f .below); clear = λ l p q. here l p (λ r. f .clear l r q) e; refused = f .refused })
-
-  -- no link refused means that each passes
-  pub links-passed : (k : ℕ) → linksRefusal t 0 k .number ≡ 0 → Clear 0 k
-  links-passed k h = go (links-search 0 k)
-    where
-      go : Clear 0 (0 + k) ⊎ Found 0 k → Clear 0 k
-      go (inl all) = λ l p q. all l p (omega arith)
-      go (inr f) = absurd (f .refused (ap (λ r. r .number) (sym (links-at 0 k (f .place) (f .from) (f .below) (f .clear) (f .refused))) ∙ h))

@@ -6,7 +6,7 @@ use mathlib.Core.List.{List, [], _∷_}
 use lib.ListN.{length}
 use lib.Dec.{eqb}
 use Rattle.paper.specs.Upload.{nodesOf, linksOf, actionsOf, exactLength}
-use Rattle.paper.specs.Table.{tableOf, EndsBelow, onePiece}
+use Rattle.paper.specs.Table.{tableOf, onePiece}
 use Rattle.paper.specs.Refusals.{Refusal, first, given, linksRefusal, tableRefusal}
 use Rattle.table.specs.declared.Checked.{Checked}
 use Rattle.table.specs.declared.Checked.the-variants.{Accepted, Refused}
@@ -51,8 +51,3 @@ pub record InRange (upload : List ℕ) : Type 0 where
 pub record HeaderPasses (upload : List ℕ) : Type 0 where
   pub range : InRange upload
   pub exact : length upload ≡ exactLength upload
-
--- the header passes, and every end of every link is a node
-pub record LinksInside (upload : List ℕ) : Type 0 where
-  pub header : HeaderPasses upload
-  pub ends : EndsBelow (tableOf upload)

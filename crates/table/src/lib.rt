@@ -6,11 +6,11 @@ ghost use lib.ListN.{length, getD};
 ghost use lib.Dec.{eqb};
 ghost use Rattle.counting.specs.Count.{all};
 ghost use Rattle.paper.specs.Upload.{nodesOf, linksOf, linkAt};
-ghost use Rattle.paper.specs.Table.{tableOf, onePiece};
+ghost use Rattle.paper.specs.Table.{tableOf};
 ghost use Rattle.paper.specs.Actions.{joins};
 ghost use Rattle.paper.specs.Refusals.{inRange, repeats, linkRefusal};
-ghost use Rattle.table.specs.Labels.{Labelled, Rewritten, ownNumber, renamed};
-ghost use Rattle.table.specs.Checked.{checked, linkNumber, answeredAt, pieceRefusal, linksThenPiece, HeaderPasses, LinksInside};
+ghost use Rattle.table.specs.Labels.{Labelled, Rewritten, EndsWithin, ownNumber, renamed, joinedBy};
+ghost use Rattle.table.specs.Checked.{checked, linkNumber, answeredAt, pieceRefusal, linksThenPiece, HeaderPasses};
 
 // The answer of the reader.
 pub enum Checked {
@@ -108,19 +108,14 @@ fn relabel(labels: &mut [u8], second: u8, first: u8)
     }
 }
 
-// Each link in turn gives all nodes that have its second node's label the label of its first.
-fn join_all(labels: &mut [u8], upload: &[u8])
-    requires { ⌜ Labelled (tableOf (now upload)) 0 (now labels) × LinksInside (now upload) ⌝ }
-    ensures { λ r. ⌜ Labelled (tableOf (now (upload .entry))) (linksOf (now (upload .entry))) (now (labels .exit)) ⌝ }
+// All nodes that have the label of link i's second node get the label of its first.
+fn join_link(labels: &mut [u8], upload: &[u8], i: usize)
+    requires { ⌜ (linkAt i + 2 ≤ length (now upload)) × EndsWithin (tableOf (now upload)) i (length (now labels)) ⌝ }
+    ensures { λ r. ⌜ Rewritten (joinedBy (tableOf (now (upload .entry))) i (now (labels .entry))) (now (labels .entry)) (now (labels .exit)) ⌝ }
 {
-    let m = upload::links(upload);
-    let mut k = 0;
-    while k < m {
-        let first = labels[upload::end(upload, k, false)];
-        let second = labels[upload::end(upload, k, true)];
-        relabel(labels, second, first);
-        k += 1;
-    }
+    let first = labels[upload::end(upload, i, false)];
+    let second = labels[upload::end(upload, i, true)];
+    relabel(labels, second, first);
 }
 
 // All labels are node 0's.
@@ -138,32 +133,12 @@ fn all_same(labels: &[u8]) -> bool
     same
 }
 
-// The labels of all nodes, worked out from the links, are the same.
-fn joined(labels: &mut [u8], upload: &[u8]) -> bool
-    requires { ⌜ (length (now labels) ≡ nodesOf (now upload)) × LinksInside (now upload) ⌝ }
-    ensures { λ r. ⌜ r ≡ onePiece (tableOf (now (upload .entry))) ⌝ }
-{
-    number_nodes(labels);
-    join_all(labels, upload);
-    all_same(labels)
-}
-
-// The table is in one piece.
-fn one_piece(upload: &[u8]) -> bool
-    requires { ⌜ LinksInside (now upload) ⌝ }
-    ensures { λ r. ⌜ r ≡ onePiece (tableOf (now (upload .entry))) ⌝ }
-{
-    let n = upload::nodes(upload);
-    let mut labels = [0u8; 63];
-    joined(&mut labels[..n], upload)
-}
-
-// Check 8.
-fn piece_checked(upload: &[u8]) -> Checked
-    requires { ⌜ LinksInside (now upload) ⌝ }
+// Check 8: the labels after every link are all node 0's.
+fn piece_checked(labels: &[u8], upload: &[u8]) -> Checked
+    requires { ⌜ HeaderPasses (now upload) × Labelled (tableOf (now upload)) (linksOf (now upload)) (now labels) ⌝ }
     ensures { λ r. ⌜ r ≡ answeredAt (now (upload .entry)) (pieceRefusal (now (upload .entry))) ⌝ }
 {
-    if one_piece(upload) {
+    if all_same(labels) {
         Checked::Accepted {
             n: upload::nodes(upload),
             m: upload::links(upload),
@@ -188,9 +163,9 @@ fn refused(number: u8, link: usize) -> Checked
     }
 }
 
-// Checks 5 to 8.
-fn links_checked(upload: &[u8]) -> Checked
-    requires { ⌜ HeaderPasses (now upload) ⌝ }
+// Checks 5 to 8: each link in turn is tried, and then joins its nodes' labels.
+fn links_checked(labels: &mut [u8], upload: &[u8]) -> Checked
+    requires { ⌜ HeaderPasses (now upload) × Labelled (tableOf (now upload)) 0 (now labels) ⌝ }
     ensures { λ r. ⌜ r ≡ answeredAt (now (upload .entry)) (linksThenPiece (now (upload .entry))) ⌝ }
 {
     let m = upload::links(upload);
@@ -200,9 +175,29 @@ fn links_checked(upload: &[u8]) -> Checked
         if number != 0 {
             return refused(number, i);
         }
+        join_link(labels, upload, i);
         i += 1;
     }
-    piece_checked(upload)
+    piece_checked(labels, upload)
+}
+
+// Checks 5 to 8, with a label for every node.
+fn nodes_checked(labels: &mut [u8], upload: &[u8]) -> Checked
+    requires { ⌜ HeaderPasses (now upload) × (length (now labels) ≡ nodesOf (now upload)) ⌝ }
+    ensures { λ r. ⌜ r ≡ answeredAt (now (upload .entry)) (linksThenPiece (now (upload .entry))) ⌝ }
+{
+    number_nodes(labels);
+    links_checked(labels, upload)
+}
+
+// Checks 5 to 8, once the header passes.
+fn table_checked(upload: &[u8]) -> Checked
+    requires { ⌜ HeaderPasses (now upload) ⌝ }
+    ensures { λ r. ⌜ r ≡ answeredAt (now (upload .entry)) (linksThenPiece (now (upload .entry))) ⌝ }
+{
+    let n = upload::nodes(upload);
+    let mut labels = [0u8; 63];
+    nodes_checked(&mut labels[..n], upload)
 }
 
 // Checks 3 to 8 of an upload, in the paper's order.
@@ -230,5 +225,5 @@ pub fn check(upload: &[u8]) -> Checked
             place: 0,
         };
     }
-    links_checked(upload)
+    table_checked(upload)
 }
