@@ -5,3 +5,4 @@ pub mod Order
 pub mod Answers
 pub mod ExactlyWhen
 pub mod Laws
+pub mod Unique
