@@ -30,7 +30,7 @@ same-length c = search needs
 returns : tie.Need-returns
 returns c =
     let at = c .before .before .before .before .before in
-    rw (← at .end2 .ensures .0, ← at .before .before .end .ensures .0) (c .before .before .relabel .ensures)
+    rw (at .end2 .ensures .0, at .before .before .end .ensures .0) at (c .before .before .relabel .ensures)
 
 pub join-link-spec : {M : Type 1} → statement M
 join-link-spec =
