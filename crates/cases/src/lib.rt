@@ -88,6 +88,20 @@ pub fn print_answer(a: paper::Answer) {
     print_number(a.waiting as u64);
 }
 
+// The number of a batch, on a line.
+pub fn print_heading(number: u64) {
+    print(b"batch ");
+    print_number(number);
+    print_newline();
+}
+
+// The first bytes of a text, as they are.
+pub fn print_start(text: &[u8], n: usize) {
+    if n <= text.len() {
+        print(&text[..n]);
+    }
+}
+
 // Bytes in hexadecimal, or a dash where there is none.
 pub fn print_bytes(bytes: &[u8]) {
     if bytes.len() == 0 {
