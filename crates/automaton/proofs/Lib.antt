@@ -1,4 +1,6 @@
+pub mod Possible
 pub mod More
 pub mod Named
 pub mod Taken
 pub mod Moves
+pub mod Unique
