@@ -1,6 +1,6 @@
 // The public calls for a program in C: each answers its six numbers in one word.
 ghost use mathlib.Core.Path.{_≡_};
-ghost use Rattle.paper.specs.Calls.{freshAnswer, freshImage, reportAnswer, stepAnswer, stepImage, replayAnswer};
+ghost use Rattle.paper.specs.Calls.{freshAnswer, freshImage, reportAnswer, listAnswer, listBuffer, stepAnswer, stepImage, runAnswer, runImage, replayAnswer};
 ghost use Rattle.paper.specs.Batch.{entryAnswer};
 ghost use Rattle.paper.specs.Lines.{linesAnswer, linesBuffer};
 ghost use Rattle.replay_c.specs.Word.{Carries};
@@ -34,6 +34,15 @@ pub extern "C" fn replay_report(upload: &[u8], image: &[u8]) -> u64
     word(replay::report(upload, image))
 }
 
+// List: the possible steps of a lent image, into a lent buffer.
+#[no_mangle]
+pub extern "C" fn replay_list(upload: &[u8], image: &[u8], out: &mut [u8]) -> u64
+    ensures { λ r. ⌜ Carries r (listAnswer (now (upload .entry)) (now (image .entry)) (now (out .entry))) ⌝ }
+    ensures { λ _. ⌜ now (out .exit) ≡ listBuffer (now (upload .entry)) (now (image .entry)) (now (out .entry)) ⌝ }
+{
+    word(replay::list(upload, image, out))
+}
+
 // Step: one action on a lent image, as action 0.
 #[no_mangle]
 pub extern "C" fn replay_step(upload: &[u8], image: &mut [u8], kind: u8, x: u8, y: u8) -> u64
@@ -41,6 +50,15 @@ pub extern "C" fn replay_step(upload: &[u8], image: &mut [u8], kind: u8, x: u8, 
     ensures { λ _. ⌜ now (image .exit) ≡ stepImage (now (upload .entry)) (now (image .entry)) kind x y ⌝ }
 {
     word(replay::step(upload, image, kind, x, y))
+}
+
+// Run: the runner, which leaves the end image.
+#[no_mangle]
+pub extern "C" fn replay_run(upload: &[u8], image: &mut [u8]) -> u64
+    ensures { λ r. ⌜ Carries r (runAnswer (now (upload .entry)) (now (image .entry))) ⌝ }
+    ensures { λ _. ⌜ now (image .exit) ≡ runImage (now (upload .entry)) (now (image .entry)) ⌝ }
+{
+    word(replay::run(upload, image))
 }
 
 // Replay: the actions of an upload, from the fresh state.
