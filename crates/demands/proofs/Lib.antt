@@ -1,3 +1,5 @@
 pub mod Order
 pub mod TableGround
 pub mod Told
+pub mod Least
+pub mod OneAction
