@@ -3,3 +3,4 @@ pub mod TableGround
 pub mod Told
 pub mod Least
 pub mod OneAction
+pub mod Replaying

@@ -158,6 +158,12 @@ in-table t (acknowledge i b) h = h
 in-table t (resolve i b) h = h
 in-table t (becomeRoot x) h = h
 
+-- 9 to 11
+pub action-number : {t : Table} {s : State} {kind x y number : ℕ} → ActionRefused t s kind x y number → (9 ≤ number) × (number ≤ 11)
+action-number (unreadable h) = (omega arith, omega arith)
+action-number (noLink h) = (omega arith, omega arith)
+action-number (notPossible step h e) = (omega arith, omega arith)
+
 module _ (t : Table) (ends : EndsBelow t) (loops : NoSelfLink t) (repeats : NoRepeat t) (kind x y : ℕ) where
   reads-step : (step : Step) → Names t kind x y step → reading t kind x y ≡ names step
   reads-step step h =
