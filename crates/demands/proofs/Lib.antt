@@ -4,3 +4,5 @@ pub mod Told
 pub mod Least
 pub mod OneAction
 pub mod Replaying
+pub mod Grounds
+pub mod ExactlyWhen

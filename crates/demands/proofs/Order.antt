@@ -30,11 +30,6 @@ tableChecks upload =
     ∷ given (not (onePiece (tableOf upload))) 8 0
     ∷ []
 
--- what is tried before and behind the table
-abbrev pub around : Refusal → Refusal → Refusal → Refusal → Refusal → Tried
-around header span image action room =
-    record { header = header; span = span; image = image; action = action; room = room }
-
 -- a refusal with nothing behind it
 nothing-behind : (r : Refusal) (rs : List Refusal) → first (first (r ∷ accepted ∷ accepted ∷ accepted ∷ []) ∷ rs) ≡ first (r ∷ rs)
 nothing-behind r rs = go (ℕ-discrete (r .number) 0)
@@ -47,16 +42,16 @@ nothing-behind r rs = go (ℕ-discrete (r .number) 0)
     go (no e) = ap (λ (q : Refusal). first (q ∷ rs)) (first-stop r none e)
 
 -- the order of all refusals, with the checks of the table as one
-pub order : (upload : List ℕ) (header span image action room : Refusal) → refusal upload (around header span image action room) ≡ first (header ∷ span ∷ tableRefusal upload ∷ image ∷ action ∷ room ∷ [])
+pub order : (upload : List ℕ) (tried : Tried) → refusal upload tried ≡ first (tried .header ∷ tried .span ∷ tableRefusal upload ∷ tried .image ∷ tried .action ∷ tried .room ∷ [])
 unfolding refusal tableChecks
-order upload header span image action room =
-    ap (λ (q : Refusal). cond (eqb (header .number) 0) (cond (eqb (span .number) 0) q span) header)
+order upload tried =
+    ap (λ (q : Refusal). cond (eqb (tried .header .number) 0) (cond (eqb (tried .span .number) 0) q (tried .span)) (tried .header))
     (first-of-first (tableChecks upload) rest
     ∙ sym (nothing-behind (first (tableChecks upload)) rest)
     ∙ ap (λ (q : Refusal). first (q ∷ rest)) (sym (first-of-first (tableChecks upload) (accepted ∷ accepted ∷ accepted ∷ []))))
   where
     rest : List Refusal
-    rest = image ∷ action ∷ room ∷ []
+    rest = tried .image ∷ tried .action ∷ tried .room ∷ []
 
 -- every refusal of a list has a property
 abbrev pub Every : (Refusal → Type 0) → List Refusal → Type 0

@@ -25,8 +25,7 @@ given-of-table b number place low high = given-either OfTable b number place (in
 
 link-of-table : (t : Table) (i : ℕ) → OfTable (linkRefusal t i)
 link-of-table t i =
-    first-every OfTable (given (namesNoNode t i) 5 i ∷ given (joinsItself t i) 6 i ∷ given (repeats t i) 7 i ∷ []) (inl refl)
-    (
+    first-every OfTable (given (namesNoNode t i) 5 i ∷ given (joinsItself t i) 6 i ∷ given (repeats t i) 7 i ∷ []) (inl refl) (
       given-of-table (namesNoNode t i) 5 i (omega arith) (omega arith),
       (given-of-table (joinsItself t i) 6 i (omega arith) (omega arith), (given-of-table (repeats t i) 7 i (omega arith) (omega arith), tt)),
     )
@@ -58,8 +57,7 @@ module _ (upload : List ℕ) where
       ∷ accepted
       ∷ accepted
       ∷ [])
-      (inl refl)
-      (
+      (inl refl) (
         inl refl,
         (
           inl refl,
