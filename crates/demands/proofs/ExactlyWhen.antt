@@ -4,6 +4,7 @@ use mathlib.Core.Bool.{Bool, true, false, not, cond, _&&_}
 use mathlib.Core.Path.{_≡_, refl, sym, ap, subst, subst₂, _∙_}
 use mathlib.Core.Logic.{_⊎_, inl, inr}
 use mathlib.Core.List.{List}
+use native.Mathlib.Omega.{arith}
 use lib.ListN.{length}
 use lib.Dec.{ltb, eqb}
 use Rattle.paper.specs.Table.{Table, tableOf}
@@ -30,7 +31,7 @@ known upload h = accepted-laws upload (ap (λ (r : Refusal). r .number) (table-a
 
 -- no action is tried
 no-acts : Acts accepted noAction (Unit {0})
-no-acts = record { refused = λ h. absurd h; range = λ h. absurd h; passed = λ h. refl; either = inl tt }
+no-acts = record { refused = λ h. absurd h; range = λ h. absurd h; within = λ h. absurd h; passed = λ h. refl; either = inl tt }
 
 -- a call of a table, which tries no header and no span
 of-table : {upload : List ℕ} {I : Type 0} {A : ℕ → ℕ → Type 0} {taken R : Type 0} {image action room : Refusal} → Told image 12 I → (TablePasses upload → Acts action A taken) → Told room 13 R → Trying (tries upload I A taken R) (trying image action room)
@@ -66,6 +67,7 @@ step-acts upload image kind x y h =
     record {
       refused = λ w. ap (λ n. record { number = n; place = cond (eqb n 0) 0 0 }) (action-given t (k .ends) (k .noSelf) (k .noRepeat) kind x y s (w .refused)) ∙ at-first _ _ (w .only);
       range = λ w. action-number (w .refused);
+      within = λ w. let only = w .only in omega arith;
       passed = λ w. ap (λ n. actionRefusal n 0) (action-passes t (k .ends) (k .noSelf) (k .noRepeat) kind x y s (w .taken));
       either = which t s (action-either t (k .ends) (k .noSelf) (k .noRepeat) kind x y s);
     }
@@ -92,6 +94,7 @@ replay-acts upload h =
     record {
       refused = λ w. ap (λ (r : Replayed). r .refusal) (replay-refused upload k w);
       range = λ w. action-number (w .refused);
+      within = λ w. let there = w .there in let most = k .actionsFit in omega arith;
       passed = λ w. ap (λ (r : Replayed). r .refusal) (replay-all upload k w);
       either = replay-either upload k;
     }

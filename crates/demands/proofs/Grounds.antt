@@ -41,6 +41,7 @@ passes {number = number} h p = h .equal ∙ ap (λ b. given b number 0) (fails (
 pub record Acts (r : Refusal) (A : ℕ → ℕ → Type 0) (taken : Type 0) : Type 0 where
   pub refused : {number place : ℕ} → A number place → r ≡ record { number = number; place = place }
   pub range : {number place : ℕ} → A number place → (9 ≤ number) × (number ≤ 11)
+  pub within : {number place : ℕ} → A number place → place ≤ 1023
   pub passed : taken → r ≡ accepted
   pub either : taken ⊎ ((number : ℕ) × (place : ℕ) × A number place)
 

@@ -6,3 +6,4 @@ pub mod OneAction
 pub mod Replaying
 pub mod Grounds
 pub mod ExactlyWhen
+pub mod Left
