@@ -7,3 +7,4 @@ pub mod Replaying
 pub mod Grounds
 pub mod ExactlyWhen
 pub mod Left
+pub mod ListLength
