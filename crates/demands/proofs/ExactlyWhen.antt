@@ -26,7 +26,7 @@ use Rattle.demands.proofs.TableGround.{table-accepted}
 use Rattle.demands.proofs.Grounds.{told, untried, Told, Acts, Trying, exactly}
 
 -- what is known of a table that passes
-known : (upload : List ℕ) → TablePasses upload → Accepted upload
+pub known : (upload : List ℕ) → TablePasses upload → Accepted upload
 known upload h = accepted-laws upload (ap (λ (r : Refusal). r .number) (table-accepted upload h))
 
 -- no action is tried

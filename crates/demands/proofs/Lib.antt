@@ -8,3 +8,4 @@ pub mod Grounds
 pub mod ExactlyWhen
 pub mod Left
 pub mod ListLength
+pub mod Answers
