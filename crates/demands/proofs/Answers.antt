@@ -1,21 +1,20 @@
 -- Demand 1 over the definitions, proved: what every call answers and leaves.
-use Prim.Native.Nat.{ℕ, zero, suc, _+_, _*_, _/_, _≤_, _<_}
-use mathlib.Core.Bool.{Bool, true, false, cond, _&&_, _||_}
-use mathlib.Core.Path.{_≡_, refl, sym, ap, subst, _∙_}
+use Prim.Native.Nat.{ℕ, zero, suc, _+_, _/_, _≤_, _<_}
+use mathlib.Core.Bool.{Bool, true, false, cond, _&&_}
+use mathlib.Core.Path.{_≡_, refl, ap, _∙_}
 use mathlib.Core.Logic.{_⊎_, inl, inr, ⊎-elim}
 use mathlib.Core.List.{List, [], _∷_}
 use native.Mathlib.Omega.{arith}
-use native.Mathlib.Decide.{ℕ-discrete, decLe, decLt}
 use lib.ListN.{length}
 use lib.Dec.{ltb, leb, eqb}
-use borrow.Author.Tests.{eqb-true, ne-eqb, eq-eqb, le-leb, lt-leb, leb-true, ltb-false}
+use borrow.Author.Tests.{eqb-true, ne-eqb, le-leb, lt-leb, leb-true, ltb-false}
 use Rattle.counting.proofs.Sums.{count-below}
 use Rattle.paper.specs.declared.Answer.{Answer}
 use Rattle.paper.specs.Upload.{byteAt, actionsOf}
 use Rattle.paper.specs.Table.{Table, tableOf}
 use Rattle.paper.specs.State.{State, fresh}
 use Rattle.paper.specs.Image.{stateOf}
-use Rattle.paper.specs.Report.{moving, roots, waitingCount, outcomeAtRest, outcomeOf, rootOf}
+use Rattle.paper.specs.Report.{moving, roots, waitingCount, outcomeOf, rootOf}
 use Rattle.paper.specs.Runner.{Ran, runFrom, runner, longest}
 use Rattle.paper.specs.Actions.{reading, stateAfter, listed}
 use Rattle.paper.specs.Refusals.{Refusal, accepted, Tried, refusal}

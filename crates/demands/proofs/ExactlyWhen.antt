@@ -1,7 +1,7 @@
 -- Each number of refusal is given exactly when document 01 says so, with the place that it says, for every call.
-use Prim.Native.Nat.{ℕ, _≤_}
+use Prim.Native.Nat.{ℕ}
 use mathlib.Core.Bool.{Bool, true, false, not, cond, _&&_}
-use mathlib.Core.Path.{_≡_, refl, sym, ap, subst, subst₂, _∙_}
+use mathlib.Core.Path.{_≡_, refl, sym, ap, subst₂, _∙_}
 use mathlib.Core.Logic.{_⊎_, inl, inr}
 use mathlib.Core.List.{List}
 use native.Mathlib.Omega.{arith}
@@ -12,13 +12,13 @@ use Rattle.paper.specs.State.{State}
 use Rattle.paper.specs.Image.{fits, sound, stateOf}
 use Rattle.paper.specs.Actions.{reading, refusedBy}
 use Rattle.paper.specs.Refusals.{Refusal, accepted, given, imageRefusal, lengthRefusal, roomRefusal}
-use Rattle.paper.specs.Calls.{freshAnswer, reportAnswer, listOfImage, listAnswer, stepAnswer, runAnswer, Replayed, replayed, replayBehind, replayAnswer, actionRefusal, trying}
+use Rattle.paper.specs.Calls.{freshAnswer, reportAnswer, listOfImage, listAnswer, stepAnswer, runAnswer, Replayed, replayed, replayBehind, actionRefusal, trying}
 use Rattle.paper.specs.Batch.{headerWrong, spanOutside, partOf, entryAnswer}
 use Rattle.paper.specs.Lines.{textOf, linesAnswer}
 use Rattle.table.specs.Accepted.{Accepted}
 use Rattle.table.proofs.Laws.{accepted-laws}
 use Rattle.table.proofs.Tells.{Tells, tells-lt, decided, holds, fails}
-use Rattle.demands.specs.ExactlyWhen.{TablePasses, Tries, ActionRefused, ActionTaken, tries, noAction, StepRefused, StepTaken, ReplayRefused, AllTaken, NoRoom, freshTries, reportTries, listTries, stepTries, replayTries, entryTries, LinesGround, written, noRoom, Exactly, Given, ExactlyWhen}
+use Rattle.demands.specs.ExactlyWhen.{TablePasses, ActionRefused, ActionTaken, tries, noAction, StepRefused, StepTaken, ReplayRefused, AllTaken, NoRoom, freshTries, reportTries, listTries, stepTries, replayTries, entryTries, LinesGround, written, noRoom, Exactly, Given, ExactlyWhen}
 use Rattle.demands.proofs.Told.{tells-header, tells-span, tells-length, tells-image}
 use Rattle.demands.proofs.OneAction.{action-given, action-passes, action-either, action-number}
 use Rattle.demands.proofs.Replaying.{replay-refused, replay-all, replay-either}

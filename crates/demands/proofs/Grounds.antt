@@ -1,12 +1,11 @@
 -- The order of refusals for every call: each ground gives its number at its place, and there is always one.
-use Prim.Native.Nat.{ℕ, _≤_, _<_}
+use Prim.Native.Nat.{ℕ, _≤_}
 use mathlib.Core.Bool.{Bool, true, false, cond}
 use mathlib.Core.Path.{_≡_, refl, sym, ap, subst₂, _∙_}
 use mathlib.Core.Logic.{_⊎_, inl, inr}
 use mathlib.Core.List.{List, [], _∷_}
 use native.Mathlib.Omega.{arith}
-use Rattle.paper.specs.declared.Answer.{Answer}
-use Rattle.paper.specs.Table.{Table, tableOf}
+use Rattle.paper.specs.Table.{Table}
 use Rattle.paper.specs.State.{State}
 use Rattle.paper.specs.Refusals.{Refusal, accepted, given, first, Tried, refusal, tableRefusal}
 use Rattle.paper.specs.Calls.{refusedWith, reported, hasState, answered}

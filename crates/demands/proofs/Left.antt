@@ -1,14 +1,12 @@
 -- What is left of the lent bytes: a refused call keeps them, an accepted one writes its output over the first of them.
-use Prim.Native.Nat.{ℕ, _≤_, _<_}
-use mathlib.Core.Bool.{Bool, true, false, cond}
+use Prim.Native.Nat.{ℕ, _≤_}
+use mathlib.Core.Bool.{cond}
 use mathlib.Core.Path.{_≡_, refl, sym, ap, _∙_}
-use mathlib.Core.Logic.{_⊎_, inl, inr}
 use mathlib.Core.List.{List, [], _++_, append-nil}
 use native.Mathlib.Omega.{arith}
-use native.Mathlib.Decide.{ℕ-discrete, decLt}
+use native.Mathlib.Decide.{ℕ-discrete}
 use lib.ListN.{length, take, drop, length-append, length-drop, drop-of-length-le}
 use lib.Seq.{take-append-seam, drop-append-seam}
-use lib.Dec.{eqb}
 use borrow.Author.Tests.{eq-eqb, ne-eqb}
 use Rattle.paper.specs.declared.Answer.{Answer}
 use Rattle.paper.specs.Table.{Table, tableOf}
@@ -16,14 +14,14 @@ use Rattle.paper.specs.State.{State, fresh}
 use Rattle.paper.specs.Image.{imageLength, imageOf}
 use Rattle.paper.specs.Refusals.{Refusal, Tried, refusal}
 use Rattle.paper.specs.Runner.{runner}
-use Rattle.paper.specs.Calls.{left, over, answered, freshAnswer, freshImage, freshRefusal, reportAnswer, reportRefusal, listOfImage, listAnswer, listBuffer, listRefusal, stepAnswer, stepImage, stepRefusal, stepState, runAnswer, runImage, replayAnswer}
+use Rattle.paper.specs.Calls.{left, over, freshAnswer, freshImage, freshRefusal, reportAnswer, listOfImage, listAnswer, listBuffer, listRefusal, stepAnswer, stepImage, stepRefusal, stepState, runAnswer, runImage, replayAnswer}
 use Rattle.paper.specs.Batch.{entryAnswer}
 use Rattle.paper.specs.Lines.{textOf, linesAnswer, linesBuffer, linesRefusal}
 use Rattle.paper.proofs.Images.{image-length}
 use Rattle.demands.specs.ExactlyWhen
-use Rattle.demands.specs.ExactlyWhen.{Given, WrongImageLength, BadImage, notTheLength, NoRoom, LinesGround, written, noRoom, Tries, Ready, Ground, ofHeader, ofSpan, ofTable, ofImage, ofAction, ofRoom, freshTries, listTries, stepTries, Exactly}
+use Rattle.demands.specs.ExactlyWhen.{WrongImageLength, notTheLength, NoRoom, LinesGround, written, noRoom, Tries, Ready, Ground, ofHeader, ofSpan, ofTable, ofImage, ofAction, ofRoom, freshTries, listTries, stepTries, Exactly}
 use Rattle.demands.specs.Answers.{Call, freshCall, runCall, reportCall, listCall, stepCall, replayCall, entryCall, linesCall, answerOf, before, after, output, Leaves}
-use Rattle.demands.proofs.Grounds.{Trying, table-number, ground, answered-given}
+use Rattle.demands.proofs.Grounds.{Trying, table-number, answered-given}
 use Rattle.demands.proofs.ExactlyWhen.{fresh-trying, list-trying, step-trying, exactly-when}
 
 -- an accepted call was ready, and had room

@@ -1,22 +1,22 @@
 -- One action tried for 9, 10 and 11: its refusal in plain terms.
-use Prim.Native.Nat.{ℕ, zero, suc, _≤_, _<_}
-use mathlib.Core.Bool.{Bool, true, false, not, cond, _&&_, _||_, false≢true}
-use mathlib.Core.Path.{_≡_, refl, sym, ap, subst, subst⁻¹, _∙_}
+use Prim.Native.Nat.{ℕ, _≤_, _<_}
+use mathlib.Core.Bool.{Bool, true, false, cond, _&&_, false≢true}
+use mathlib.Core.Path.{_≡_, refl, sym, ap, subst, _∙_}
 use mathlib.Core.Logic.{_⊎_, inl, inr, ⊎-elim}
 use native.Mathlib.Omega.{arith}
 use native.Mathlib.Decide.{decLt, ℕ-discrete}
 use lib.Dec.{ltb, leb, eqb}
-use borrow.Author.Tests.{eqb-true, eqb-false, ltb-true, ltb-false, lt-ltb, le-ltb, leb-true, leb-false, le-leb, lt-leb, eq-eqb, ne-eqb}
+use borrow.Author.Tests.{eqb-true, eqb-false, ltb-true, ltb-false, lt-ltb, le-ltb, leb-true, le-leb, lt-leb, eq-eqb, ne-eqb}
 use Rattle.paper.specs.Table.{Table, source, target, EndsBelow, NoSelfLink}
 use Rattle.paper.specs.State.{State}
-use Rattle.paper.specs.Steps.{Step, childrenKnown, addChild, acknowledge, resolve, becomeRoot, possible, effect}
+use Rattle.paper.specs.Steps.{Step, childrenKnown, addChild, acknowledge, resolve, becomeRoot, possible}
 use Rattle.paper.specs.Actions.{Reading, names, unread, joins, linkBetween, directionFrom, nodeStep, linkStep, readNode, readLink, ofNode, ofLink, reading, refusedBy, stateAfter}
-use Rattle.paper.specs.Meanings.{NoRepeat, kindOf, firstOf, secondOf}
+use Rattle.paper.specs.Meanings.{NoRepeat}
 use Rattle.paper.proofs.Tests.{and-both, and-left, and-right, or-cases, or-left, or-right, either, least-none}
 use Rattle.paper.proofs.Changes
 use Rattle.paper.proofs.Readings.{Read, at-node, on-link, not-read, read, read-once, read-step}
 use Rattle.demands.specs.ExactlyWhen.{Unreadable, kindUnder, kindOver, noFirst, noSecond, secondNamed, NoLink, InTable, Names, ActionRefused, unreadable, noLink, notPossible, ActionTaken}
-use Rattle.demands.proofs.Least.{least-below, least-lies}
+use Rattle.demands.proofs.Least.{least-below}
 
 -- a reading, with the ground of its refusal
 data Cause (t : Table) (kind x y : ℕ) : Reading → Type 0 where

@@ -1,7 +1,6 @@
 -- The actions of a replay in turn: the first that is refused, or all taken.
-use Prim.Native.Nat.{ℕ, zero, suc, _+_, _-_, _≤_, _<_}
-use mathlib.Core.Bool.{Bool, true, false}
-use mathlib.Core.Path.{_≡_, refl, sym, ap, subst, _∙_}
+use Prim.Native.Nat.{ℕ, zero, suc, _+_, _-_}
+use mathlib.Core.Path.{_≡_, sym, ap, subst, _∙_}
 use mathlib.Core.Logic.{_⊎_, inl, inr}
 use mathlib.Core.List.{List}
 use native.Mathlib.Omega.{arith}
@@ -11,9 +10,9 @@ use Rattle.paper.specs.Table.{tableOf}
 use Rattle.paper.specs.State.{State, fresh}
 use Rattle.paper.specs.Actions.{refusedBy, stateAfter}
 use Rattle.paper.specs.Refusals.{accepted}
-use Rattle.paper.specs.Calls.{Replayed, actionOf, replayFrom, replayed}
+use Rattle.paper.specs.Calls.{actionOf, replayFrom, replayed}
 use Rattle.table.specs.Accepted.{Accepted}
-use Rattle.demands.specs.ExactlyWhen.{Unreadable, unreadable, noLink, notPossible, ActionRefused, ActionTaken, kindAt, firstAt, secondAt, Taken, atFirst, andThen, ReplayRefused, AllTaken}
+use Rattle.demands.specs.ExactlyWhen.{ActionRefused, ActionTaken, kindAt, firstAt, secondAt, Taken, atFirst, andThen, ReplayRefused, AllTaken}
 use Rattle.demands.proofs.OneAction.{action-given, action-passes, action-leads, action-either, action-number}
 
 module _ (upload : List ℕ) (s : State) (i k : ℕ) where

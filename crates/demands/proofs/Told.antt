@@ -1,13 +1,13 @@
 -- The tests of the header, the span, the image and the room, in plain terms.
 use Prim.Native.Nat.{ℕ, zero, suc, _+_, _≤_, _<_}
-use mathlib.Core.Bool.{Bool, true, false, not, _&&_, _||_, true≢false, false≢true}
+use mathlib.Core.Bool.{Bool, true, false, not, _&&_, true≢false, false≢true}
 use mathlib.Core.Path.{_≡_, refl, sym, ap, subst, _∙_}
 use mathlib.Core.Logic.{_⊎_, inl, inr}
 use mathlib.Core.List.{List}
 use native.Mathlib.Omega.{arith}
 use native.Mathlib.Decide.{ℕ-discrete}
 use lib.ListN.{length}
-use lib.Dec.{ltb, leb, eqb}
+use lib.Dec.{ltb}
 use Rattle.counting.specs.Count.{all}
 use Rattle.paper.specs.Upload.{byteAt}
 use Rattle.paper.specs.Table.{Table, source}

@@ -1,5 +1,5 @@
 -- The table of refusals of document 01, numbers 0 to 13 for every call, in plain terms: what each number is given for, at which place, behind which checks.
-use Prim.Native.Nat.{ℕ, zero, suc, _+_, _*_, _≤_, _<_}
+use Prim.Native.Nat.{ℕ, suc, _+_, _≤_, _<_}
 use mathlib.Core.Bool.{Bool, true, false}
 use mathlib.Core.Path.{_≡_}
 use mathlib.Core.Logic.{_⊎_, _↔_}
