@@ -6,8 +6,10 @@ use mathlib.Core.Logic.{inl, inr, ⊎-elim}
 use Rattle.paper.specs.Table.{Table, source, target, EndsBelow}
 use Rattle.paper.specs.State.{none, request, acknowledgement, State}
 use Rattle.paper.specs.Steps.{carries, isRequest, at, acknowledge, possible, effect}
+use Rattle.paper.proofs.Tests.{not-not, clash}
+use Rattle.paper.proofs.Changes.{at-elim}
 use Rattle.election.specs.Local.{Local}
-use Rattle.election.proofs.Updates.{clash, fails, not-not, target-back, either, at-elim, Same, same}
+use Rattle.election.proofs.Updates.{fails, target-back, either, Same, same}
 use Rattle.election.proofs.Messages.{loaded, kind, requested}
 use Rattle.election.proofs.Possible.{acknowledge-possible}
 use Rattle.election.proofs.ChildMark.{turned}
@@ -41,7 +43,7 @@ module _ (t : Table) (s : State) (below : EndsBelow t) (i : ℕ) (b : Bool) (L :
 
   -- what held of contending nodes holds after the step, where it holds of the target
   contends : (P : Bool → Type 0) (x : ℕ) → (x ≡ target t i b → P (isRequest (s .message i b))) → ((x ≡ target t i b → ⊥) → P (s .contending x)) → P (contending′ x)
-  contends = at-elim (s .contending) (target t i b) (isRequest (s .message i b))
+  contends P = at-elim P (s .contending) (target t i b) (isRequest (s .message i b))
 
   met′ : (j : ℕ) (c : Bool) → j < t .links → s .waiting (source t j c) ≡ false → s .waiting (target t j c) ≡ false → s .child j c ≡ false → s .child j (not c) ≡ false → unread s i b j c ≡ none → contending′ (target t j c) ≡ true
   met′ j c lj w w′ p q r =

@@ -5,8 +5,8 @@ use mathlib.Core.Path.{_≡_}
 use Rattle.paper.specs.Table.{Table, target}
 use Rattle.paper.specs.State.{State}
 use Rattle.paper.specs.Steps.{becomeRoot, possible, effect}
+use Rattle.paper.proofs.Changes.{at-elim}
 use Rattle.election.specs.Local.{Local}
-use Rattle.election.proofs.Updates.{at-elim}
 use Rattle.election.proofs.Unheard.{all-child}
 use Rattle.election.proofs.Possible.{becomeRoot-possible}
 
@@ -29,8 +29,7 @@ local-becomeRoot t s x L can =
       atMostOne = L .atMostOne;
       rooted =
           λ i b lt.
-          at-elim (s .root) x true
-          (λ r. r ≡ true → s .child i b ≡ true) (target t i b)
+          at-elim (λ r. r ≡ true → s .child i b ≡ true) (s .root) x true (target t i b)
           (λ into h. all-child t s x (becomeRoot-possible t s x can .2) i b lt into)
           (λ other. L .rooted i b lt);
     }

@@ -8,8 +8,10 @@ use borrow.Author.Tests.{lt-ltb, eq-eqb, ne-eqb}
 use Rattle.paper.specs.Table.{Table, source, target}
 use Rattle.paper.specs.State.{Message, none, request, acknowledgement, State}
 use Rattle.paper.specs.Steps.{unheard, at, outOf, sends, childrenKnown, possible, effect}
+use Rattle.paper.proofs.Tests.{clash}
+use Rattle.paper.proofs.Changes.{at-elim}
 use Rattle.election.specs.Local.{Local}
-use Rattle.election.proofs.Updates.{clash, either, at-place, at-other, at-elim}
+use Rattle.election.proofs.Updates.{either, at-place, at-other}
 use Rattle.election.proofs.Messages.{loaded, sends-request, sends-acknowledgement, sends-something}
 use Rattle.election.proofs.Possible.{childrenKnown-possible}
 
@@ -33,7 +35,7 @@ module _ (t : Table) (s : State) (x : ℕ) (L : Local t s) (can : possible t s (
   waiting′ = at (s .waiting) x false
 
   waits : (P : Bool → Type 0) (z : ℕ) → (z ≡ x → P false) → ((z ≡ x → ⊥) → P (s .waiting z)) → P (waiting′ z)
-  waits = at-elim (s .waiting) x false
+  waits P = at-elim P (s .waiting) x false
 
   -- who waits did before, and is not x
   did : (z : ℕ) → waiting′ z ≡ true → s .waiting z ≡ true

@@ -6,8 +6,10 @@ use mathlib.Core.Logic.{_⊎_, inl, inr, ⊎-elim}
 use Rattle.paper.specs.Table.{Table, source, target, EndsBelow}
 use Rattle.paper.specs.State.{State}
 use Rattle.paper.specs.Steps.{at, resolve, possible, effect}
+use Rattle.paper.proofs.Tests.{clash}
+use Rattle.paper.proofs.Changes.{at-elim}
 use Rattle.election.specs.Local.{Local}
-use Rattle.election.proofs.Updates.{clash, target-back, either, at-elim, Same, same}
+use Rattle.election.proofs.Updates.{target-back, either, Same, same}
 use Rattle.election.proofs.Possible.{resolve-possible}
 use Rattle.election.proofs.ChildMark.{turned-back, marked-off, kept, absent, not-new, marked-sourced, marked-atMostOne, marked-oneWay, marked-asked}
 use Rattle.election.proofs.OneUnheard.{rest-child}
@@ -49,10 +51,9 @@ module _ (t : Table) (s : State) (below : EndsBelow t) (i : ℕ) (b : Bool) (L :
 
   contends : (P : Bool → Type 0) (x : ℕ) → ((x ≡ source t i b) ⊎ (x ≡ target t i b) → P false) → ((x ≡ source t i b → ⊥) → (x ≡ target t i b → ⊥) → P (s .contending x)) → P (contending′ x)
   contends P x end other =
-      at-elim
-      (at (s .contending) (source t i b) false) (target t i b) false P x
+      at-elim P (at (s .contending) (source t i b) false) (target t i b) false x
       (λ e. end (inr e))
-      (λ n. at-elim (s .contending) (source t i b) false P x (λ e. end (inl e)) (λ n′. other n′ n))
+      (λ n. at-elim P (s .contending) (source t i b) false x (λ e. end (inl e)) (λ n′. other n′ n))
 
   -- who contends did before
   did : (x : ℕ) → contending′ x ≡ true → s .contending x ≡ true

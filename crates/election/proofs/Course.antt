@@ -14,14 +14,15 @@ use Rattle.counting.proofs.Directions.{both-gain}
 use Rattle.paper.specs.Table.{Table, target, EndsBelow, NoSelfLink, OnePiece}
 use Rattle.paper.specs.State.{State, fresh}
 use Rattle.paper.specs.Steps.{Step, childrenKnown, addChild, acknowledge, resolve, becomeRoot, unheard, possible, effect, after, taken, isResolve, resolved}
-use Rattle.election.specs.Local.{Local}
 use Rattle.paper.specs.Meanings.{SoundMarks}
+use Rattle.paper.proofs.Images.{sound-kept}
+use Rattle.election.specs.Local.{Local}
 use Rattle.election.proofs.Possible.{resolve-possible}
 use Rattle.election.proofs.Unheard.{unheard-le}
 use Rattle.election.proofs.ChildMark.{marked, marked-on, marked-off, kept}
 use Rattle.election.proofs.FreshIsLocal.{local-fresh}
 use Rattle.election.proofs.LocalRuns.{local-step}
-use Rattle.election.proofs.Ends.{potential, potential-rises, sound-kept}
+use Rattle.election.proofs.Ends.{potential, potential-rises}
 use Rattle.election.proofs.Balance.{isBare, bare, isFull}
 use Rattle.election.proofs.Peeling.{Peeled, fresh-peeled, peeled-kept}
 use Rattle.election.proofs.Left.{full, Left, left}
@@ -41,7 +42,7 @@ length-potential t s sound [] e = omega arith
 length-potential t s sound (x ∷ xs) e =
     let q = and-eq-true-iff (possible t s x) (taken t (effect t s x) xs) .0 e in
     let r = potential-rises t s sound x (q .0) in
-    let i = length-potential t (effect t s x) (sound-kept t s sound x (q .0)) xs (q .1) in omega arith
+    let i = length-potential t (effect t s x) (sound-kept t s x sound) xs (q .1) in omega arith
 
 -- child marks are never taken away
 child-kept : (t : Table) (s : State) (x : Step) (i : ℕ) (b : Bool) → s .child i b ≡ true → effect t s x .child i b ≡ true

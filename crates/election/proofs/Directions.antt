@@ -5,9 +5,10 @@ use mathlib.Core.Path.{_≡_, refl, sym}
 use native.Mathlib.Omega.{arith}
 use native.Mathlib.Decide.{ℕ-discrete}
 use Rattle.counting.specs.Count.{bit}
+use Rattle.counting.proofs.Sums.{sum-le, sum-term, sum-pair}
 use Rattle.paper.specs.Table.{Table, directions}
-use Rattle.election.proofs.Places.{sum-le, one-le, two-le}
-use Rattle.election.proofs.Updates.{clash, either, Same}
+use Rattle.paper.proofs.Tests.{clash}
+use Rattle.election.proofs.Updates.{either, Same}
 
 bit-le : (p q : Bool) → (p ≡ true → q ≡ true) → bit p ≤ bit q
 bit-le true true h = omega arith
@@ -40,7 +41,7 @@ passed-both p i false false e e′ n = absurd (n refl)
 pub directions-one : (t : Table) (p : ℕ → Bool → Bool) (i : ℕ) (b : Bool) → i < t .links → p i b ≡ true → 1 ≤ directions t p
 directions-one t p i b lt e =
     let here = passed p i b e in
-    let place = one-le (t .links) (λ i. bit (p i false) + bit (p i true)) i lt in
+    let place = sum-term (t .links) (λ i. bit (p i false) + bit (p i true)) i lt in
     omega arith
 
 -- two directions that pass make the count at least two
@@ -50,10 +51,10 @@ directions-two t p i b j c li lj e e′ n =
     (ℕ-discrete j i)
     (λ q.
     let here = passed-both p i b c e (rw q at e′) (λ r. n (q, r)) in
-    let place = one-le (t .links) (λ i. bit (p i false) + bit (p i true)) i li in
+    let place = sum-term (t .links) (λ i. bit (p i false) + bit (p i true)) i li in
     omega arith)
     (λ d.
     let here = passed p i b e in
     let there = passed p j c e′ in
-    let places = two-le (t .links) (λ i. bit (p i false) + bit (p i true)) i j li lj (λ q. d (sym q)) in
+    let places = sum-pair (t .links) (λ i. bit (p i false) + bit (p i true)) i j li lj (λ q. d (sym q)) in
     omega arith)

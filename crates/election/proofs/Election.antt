@@ -19,7 +19,7 @@ use Rattle.paper.specs.Stuck.{Closed, Stuck, size, border}
 use Rattle.paper.specs.Report.{moving, roots, waitingCount, outcomeAtRest}
 use Rattle.paper.proofs.Moving.{moving-still}
 use Rattle.election.specs.Demand.{reachedBy, Ended, WithoutLoop, WithLoop, StuckSet, OneStuckSet, FewSteps, NeverOdd, Demand}
-use Rattle.election.proofs.Updates.{either}
+use Rattle.election.proofs.Updates.{either, same-test}
 use Rattle.election.proofs.Directions.{directions-le}
 use Rattle.election.proofs.Ends.{stopped, isDone, done, potential, every-run-ends}
 use Rattle.election.proofs.Balance.{inside}
@@ -64,12 +64,6 @@ fresh-potential t below =
     let b = both-none (t .links) (λ i b. bit (isDone t (fresh t) i b)) (λ i b l. rw (lt-ltb (source t i b) (t .nodes) (below i b l)) refl) in
     let c = count-none (t .nodes) (λ x. false) (λ x l. refl) in omega arith
 
--- two tests that imply each other
-same-test : (p q : Bool) → (p ≡ true → q ≡ true) → (q ≡ true → p ≡ true) → p ≡ q
-same-test true q f g = sym (f refl)
-same-test false true f g = g refl
-same-test false false f g = refl
-
 pub one-stuck-set : (t : Table) → OneStuckSet t
 one-stuck-set t K L p q x l = same-test (K x) (L x) (q .largest K (p .closed) x l) (p .largest L (q .closed) x l)
 
@@ -91,7 +85,7 @@ module _ (t : Table) (one : 1 ≤ t .nodes) (below : EndsBelow t) (apart : NoSel
       let a = length-potential t (fresh t) (begun .local .silent) xs r in
       let b = fresh-potential t below in omega arith
 
-  few-roots : (xs : List Step) → Run t xs → roots t (reachedBy t xs) ≤ 1
+  pub few-roots : (xs : List Step) → Run t xs → roots t (reachedBy t xs) ≤ 1
   few-roots xs r = go (reached-left t below apart (reachedBy t xs) (every-reached xs r)) (roots-full t (reachedBy t xs) (every-reached xs r .local))
     where
       go : Left t (reachedBy t xs) → roots t (reachedBy t xs) ≤ full t (reachedBy t xs) → roots t (reachedBy t xs) ≤ 1
@@ -172,12 +166,16 @@ module _ (t : Table) (one : 1 ≤ t .nodes) (below : EndsBelow t) (apart : NoSel
   no-loop : t .links + 1 ≡ t .nodes → WithoutLoop t
   no-loop h =
       record {
-        fewRoots = few-roots;
-        fewResolved = few-resolved;
-        oneRoot = λ xs e. end-root xs e (none xs e);
-        noneWaits = λ xs e. count-zero (t .nodes) (reachedBy t xs .waiting) (none xs e);
-        steps = λ xs e z. let a = end-steps xs e (none xs e) h in omega arith;
-        stepsResolved = λ xs e z. let a = end-steps xs e (none xs e) h in omega arith;
+        runs = λ xs r. record { fewRoots = few-roots xs r; fewResolved = few-resolved xs r };
+        ends =
+            λ xs e.
+            let a = end-steps xs e (none xs e) h in
+            record {
+              oneRoot = end-root xs e (none xs e);
+              noneWaits = count-zero (t .nodes) (reachedBy t xs .waiting) (none xs e);
+              steps = λ z. omega arith;
+              stepsResolved = λ z. omega arith;
+            };
       }
     where
       none : (xs : List Step) → Ended t xs → waitingCount t (reachedBy t xs) ≡ 0
@@ -190,9 +188,8 @@ module _ (t : Table) (one : 1 ≤ t .nodes) (below : EndsBelow t) (apart : NoSel
   pub with-loop : t .nodes ≤ t .links → (K : ℕ → Bool) → Stuck t K → WithLoop t K
   with-loop loop K stuck =
       record {
-        noRoot = λ xs r. count-zero (t .nodes) (reachedBy t xs .root) (never-root loop xs r);
-        noneResolved = never-resolved loop;
-        steps =
+        runs = λ xs r. record { noRoot = never-root loop xs r; noneResolved = never-resolved loop xs r };
+        ends =
             λ xs e.
             let a = run-length xs (e .0) in
             let b = never-root loop xs (e .0) in
@@ -203,9 +200,11 @@ module _ (t : Table) (one : 1 ≤ t .nodes) (below : EndsBelow t) (apart : NoSel
             let h = waits-size xs e K stuck in
             let i = count-not (t .nodes) (reachedBy t xs .waiting) in
             let j = facts xs e .peeled .some (positive xs e) in
-            omega arith;
-        stillWait = λ xs e. one-stuck-set t (reachedBy t xs .waiting) K (end-stuck xs e) stuck;
-        sizeWaits = λ xs e. waits-size xs e K stuck;
+            record {
+              steps = omega arith;
+              stillWait = one-stuck-set t (reachedBy t xs .waiting) K (end-stuck xs e) stuck;
+              sizeWaits = h;
+            };
       }
     where
       positive : (xs : List Step) → Ended t xs → 0 < waitingCount t (reachedBy t xs)

@@ -1,6 +1,6 @@
 -- Every run ends: the potential rises by one at every step but a resolved contention, which leaves it.
 use Prim.Native.Nat.{ℕ, _+_, _*_, _≤_, _<_}
-use mathlib.Core.Bool.{Bool, true, false, not, cond, _&&_, and-false, and-eq-true-iff}
+use mathlib.Core.Bool.{Bool, true, false, not, _&&_, and-false, and-eq-true-iff}
 use mathlib.Core.Path.{_≡_, refl, ap, sym, _∙_}
 use mathlib.Core.List.{List, [], _∷_}
 use native.Mathlib.Omega.{arith}
@@ -12,14 +12,15 @@ use Rattle.counting.proofs.Bits.{bit-most}
 use Rattle.counting.proofs.Sums.{sum-add, sum-le, sum-ones, sum-change, count-below, count-gain}
 use Rattle.counting.proofs.Directions.{both-eq, both-gain}
 use Rattle.paper.specs.Table.{Table, source, target, directions, EndsBelow, NoSelfLink}
-use Rattle.paper.specs.State.{none, State}
-use Rattle.paper.specs.Steps.{Step, childrenKnown, addChild, acknowledge, resolve, becomeRoot, carries, isRequest, sends, outOf, at, possible, effect, taken, isResolve}
+use Rattle.paper.specs.State.{State}
+use Rattle.paper.specs.Steps.{Step, childrenKnown, addChild, acknowledge, resolve, becomeRoot, carries, isRequest, sends, at, possible, effect, taken, isResolve}
 use Rattle.paper.specs.Report.{roots}
-use Rattle.election.specs.Demand.{RunsEnd}
 use Rattle.paper.specs.Meanings.{SoundMarks}
-use Rattle.election.proofs.Updates.{clash, fails, at-place, at-other}
+use Rattle.paper.proofs.Images.{sound-kept}
+use Rattle.election.specs.Demand.{RunsEnd}
+use Rattle.election.proofs.Updates.{fails, at-place, at-other}
 use Rattle.election.proofs.Messages.{loaded}
-use Rattle.election.proofs.MessageRead.{unread, unread-on, unread-off, still-none}
+use Rattle.election.proofs.MessageRead.{unread, unread-on, unread-off}
 use Rattle.election.proofs.Possible.{childrenKnown-possible, addChild-possible, acknowledge-possible, resolve-possible, becomeRoot-possible}
 
 -- how many nodes have stopped waiting
@@ -139,20 +140,6 @@ module _ (t : Table) (s : State) where
           let v = idle-resolve below apart i b (p .0) (p .1) (p .2) in omega arith
       go (becomeRoot x) e u = omega arith
 
-  -- Sound marks are kept.
-  pub sound-kept : SoundMarks t s → (x : Step) → possible t s x ≡ true → SoundMarks t (effect t s x)
-  unfolding effect
-  sound-kept sound (childrenKnown x) e = λ i b l w. go i b l w (ℕ-discrete (source t i b) x)
-    where
-      go : (i : ℕ) (b : Bool) → i < t .links → at (s .waiting) x false (source t i b) ≡ true → Dec (source t i b ≡ x) → cond (outOf t x i b) (sends (s .child i (not b))) (s .message i b) ≡ none
-      go i b l w (yes q) = clash w (at-place (s .waiting) x false q)
-      go i b l w (no d) =
-          rw (ne-eqb (source t i b) x d, lt-ltb i (t .links) l) (sound i b l (sym (at-other (s .waiting) x false d) ∙ w))
-  sound-kept sound (addChild i b) e = λ j c l w. still-none s i b j c (sound j c l w)
-  sound-kept sound (acknowledge i b) e = λ j c l w. still-none s i b j c (sound j c l w)
-  sound-kept sound (resolve i b) e = sound
-  sound-kept sound (becomeRoot x) e = sound
-
 potential-below : (t : Table) (s : State) → 2 * potential t s + idle t s ≤ 5 * t .nodes + 4 * t .links
 potential-below t s =
     let p = count-below (t .nodes) (λ x. not (s .waiting x)) in
@@ -172,7 +159,7 @@ runs-end t s below apart sound xs e = let g = grows s sound xs e in omega arith
     grows s sound (x ∷ xs) e =
         let p = and-eq-true-iff (possible t s x) (taken t (effect t s x) xs) .0 e in
         let u = step-rises t s below apart sound x (p .0) in
-        let g = grows (effect t s x) (sound-kept t s sound x (p .0)) xs (p .1) in omega arith
+        let g = grows (effect t s x) (sound-kept t s x sound) xs (p .1) in omega arith
 
 pub every-run-ends : (t : Table) → EndsBelow t → NoSelfLink t → RunsEnd t
 every-run-ends t below apart s = runs-end t s below apart

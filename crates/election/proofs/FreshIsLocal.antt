@@ -5,8 +5,8 @@ use mathlib.Core.Path.{_≡_, refl, sym}
 use borrow.Author.Tests.{lt-ltb}
 use Rattle.paper.specs.Table.{Table, source, EndsBelow}
 use Rattle.paper.specs.State.{fresh}
+use Rattle.paper.proofs.Tests.{clash}
 use Rattle.election.specs.Local.{Local}
-use Rattle.election.proofs.Updates.{clash}
 use Rattle.election.proofs.Messages.{loaded}
 
 pub local-fresh : (t : Table) → EndsBelow t → Local t (fresh t)

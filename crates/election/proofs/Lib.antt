@@ -1,4 +1,4 @@
-pub mod Places
+pub mod AddedUp
 pub mod Updates
 pub mod Directions
 pub mod Unheard
@@ -26,4 +26,11 @@ pub mod Closed
 pub mod Rest
 pub mod Furthest
 pub mod Election
+pub mod Replays
+pub mod Runner
+pub mod Refused
+pub mod Alike
+pub mod Logs
+pub mod LogOf
+pub mod Answers
 pub mod Examples

@@ -12,8 +12,9 @@ use Rattle.paper.specs.State.{State, fresh}
 use Rattle.paper.specs.Stuck.{linksInto}
 use Rattle.paper.specs.Steps.{Step, childrenKnown, addChild, acknowledge, resolve, becomeRoot, unheard, at, possible, effect}
 use Rattle.paper.specs.Report.{waitingCount}
+use Rattle.paper.proofs.Tests.{clash}
 use Rattle.election.specs.Local.{Local}
-use Rattle.election.proofs.Updates.{clash, at-place, at-other}
+use Rattle.election.proofs.Updates.{at-place, at-other}
 use Rattle.election.proofs.Possible.{childrenKnown-possible}
 use Rattle.election.proofs.Ends.{ends-differ}
 use Rattle.election.proofs.Into.{into-le, into-none}

@@ -1,17 +1,15 @@
--- Reading a changed mark or message: at the place that was changed, and at any other.
+-- Reading a changed mark or message: at the place that was changed, and at any other; and when a test fails, passes or equals another.
 use Prim.Native.Nat.{ℕ}
-use mathlib.Core.Bool.{Bool, true, false, not, cond, _&&_, Bool·beq, Bool-discrete, true≢false, and-eq-true-iff}
-use mathlib.Core.Path.{_≡_, refl, sym, ap, subst, _∙_}
+use mathlib.Core.Bool.{Bool, true, false, not, cond, _&&_, Bool·beq, Bool-discrete, and-eq-true-iff}
+use mathlib.Core.Path.{_≡_, refl, sym, ap, subst}
 use mathlib.Core.Logic.{Dec·and}
 use native.Mathlib.Decide.{ℕ-discrete}
 use lib.Dec.{eqb}
-use borrow.Author.Tests.{eq-eqb, ne-eqb, eqb-true}
+use borrow.Author.Tests.{eq-eqb, eqb-true}
 use Rattle.paper.specs.Table.{Table, source, target}
 use Rattle.paper.specs.Steps.{at, atDirection}
-
--- a test has one answer
-pub clash : {A : Type 0} {b : Bool} → b ≡ true → b ≡ false → A
-clash p q = absurd (true≢false (sym p ∙ q))
+use Rattle.paper.proofs.Tests.{not-not}
+use Rattle.paper.proofs.Changes.{at-away}
 
 -- a test that cannot pass fails, and one that cannot fail passes
 pub fails : (b : Bool) → (b ≡ true → ⊥) → b ≡ false
@@ -22,9 +20,11 @@ pub passes : (b : Bool) → (b ≡ false → ⊥) → b ≡ true
 passes true h = refl
 passes false h = absurd (h refl)
 
-pub not-not : (b : Bool) → not (not b) ≡ b
-not-not true = refl
-not-not false = refl
+-- two tests that imply each other
+pub same-test : (p q : Bool) → (p ≡ true → q ≡ true) → (q ≡ true → p ≡ true) → p ≡ q
+same-test true q f g = sym (f refl)
+same-test false true f g = g refl
+same-test false false f g = refl
 
 -- the reverse of a direction goes to where that comes from
 pub target-back : (t : Table) (i : ℕ) (b : Bool) → target t i (not b) ≡ source t i b
@@ -40,10 +40,7 @@ module _ {A : Type 0} (f : ℕ → A) (k : ℕ) (a : A) where
   at-place {j} e = ap (λ (r : Bool). cond r a (f j)) (eq-eqb j k e)
 
   pub at-other : {j : ℕ} → (j ≡ k → ⊥) → at f k a j ≡ f j
-  at-other {j} n = ap (λ (r : Bool). cond r a (f j)) (ne-eqb j k n)
-
-  pub at-elim : (P : A → Type 0) (j : ℕ) → (j ≡ k → P a) → ((j ≡ k → ⊥) → P (f j)) → P (at f k a j)
-  at-elim P j place other = either (ℕ-discrete j k) (λ e. subst P (sym (at-place e)) (place e)) (λ n. subst P (sym (at-other n)) (other n))
+  at-other {j} n = at-away f k a j n
 
 -- the direction (j, c) is the direction (i, b)
 abbrev pub Same : ℕ → Bool → ℕ → Bool → Type 0

@@ -20,33 +20,49 @@ reachedBy t xs = after t (fresh t) xs
 abbrev pub Ended : Table → List Step → Type 0
 Ended t xs = Run t xs × Still t (reachedBy t xs)
 
+-- A run on a table without a loop:
+pub record RunWithoutLoop (t : Table) (xs : List Step) : Type 0 where
+  -- there is never more than one root
+  pub fewRoots : roots t (reachedBy t xs) ≤ 1
+  -- no run resolves two contentions
+  pub fewResolved : resolved xs ≤ 1
+
+-- A run that can go no further on a table without a loop:
+pub record EndWithoutLoop (t : Table) (xs : List Step) : Type 0 where
+  -- there is exactly one root
+  pub oneRoot : roots t (reachedBy t xs) ≡ 1
+  -- and no node waits
+  pub noneWaits : (x : ℕ) → x < t .nodes → reachedBy t xs .waiting x ≡ false
+  -- it took 3n - 1 steps if it resolved no contention
+  pub steps : resolved xs ≡ 0 → length xs + 1 ≡ 3 * t .nodes
+  -- and 3n if it resolved one
+  pub stepsResolved : resolved xs ≡ 1 → length xs ≡ 3 * t .nodes
+
 -- On a table without a loop, m = n - 1:
 pub record WithoutLoop (t : Table) : Type 0 where
-  -- there is never more than one root
-  pub fewRoots : (xs : List Step) → Run t xs → roots t (reachedBy t xs) ≤ 1
-  -- no run resolves two contentions
-  pub fewResolved : (xs : List Step) → Run t xs → resolved xs ≤ 1
-  -- a run that can go no further has exactly one root
-  pub oneRoot : (xs : List Step) → Ended t xs → roots t (reachedBy t xs) ≡ 1
-  -- and no node waits
-  pub noneWaits : (xs : List Step) → Ended t xs → (x : ℕ) → x < t .nodes → reachedBy t xs .waiting x ≡ false
-  -- it took 3n - 1 steps if it resolved no contention
-  pub steps : (xs : List Step) → Ended t xs → resolved xs ≡ 0 → length xs + 1 ≡ 3 * t .nodes
-  -- and 3n if it resolved one
-  pub stepsResolved : (xs : List Step) → Ended t xs → resolved xs ≡ 1 → length xs ≡ 3 * t .nodes
+  pub runs : (xs : List Step) → Run t xs → RunWithoutLoop t xs
+  pub ends : (xs : List Step) → Ended t xs → EndWithoutLoop t xs
+
+-- A run on a table with a loop:
+pub record RunWithLoop (t : Table) (xs : List Step) : Type 0 where
+  -- there is never a root
+  pub noRoot : roots t (reachedBy t xs) ≡ 0
+  -- no contention is ever resolved
+  pub noneResolved : resolved xs ≡ 0
+
+-- A run that can go no further on a table with a loop, with K its stuck set:
+pub record EndWithLoop (t : Table) (K : ℕ → Bool) (xs : List Step) : Type 0 where
+  -- it took 3(n - k) - t steps
+  pub steps : length xs + border t K + 3 * size t K ≡ 3 * t .nodes
+  -- exactly the nodes of K still wait
+  pub stillWait : (x : ℕ) → x < t .nodes → reachedBy t xs .waiting x ≡ K x
+  -- and the waiting count is its size
+  pub sizeWaits : waitingCount t (reachedBy t xs) ≡ size t K
 
 -- On a table with a loop, m at least n, with K its stuck set:
 pub record WithLoop (t : Table) (K : ℕ → Bool) : Type 0 where
-  -- there is never a root
-  pub noRoot : (xs : List Step) → Run t xs → (x : ℕ) → x < t .nodes → reachedBy t xs .root x ≡ false
-  -- no run resolves a contention
-  pub noneResolved : (xs : List Step) → Run t xs → resolved xs ≡ 0
-  -- a run that can go no further took 3(n - k) - t steps
-  pub steps : (xs : List Step) → Ended t xs → length xs + border t K + 3 * size t K ≡ 3 * t .nodes
-  -- exactly the nodes of K still wait
-  pub stillWait : (xs : List Step) → Ended t xs → (x : ℕ) → x < t .nodes → reachedBy t xs .waiting x ≡ K x
-  -- and the waiting count is its size
-  pub sizeWaits : (xs : List Step) → Ended t xs → waitingCount t (reachedBy t xs) ≡ size t K
+  pub runs : (xs : List Step) → Run t xs → RunWithLoop t xs
+  pub ends : (xs : List Step) → Ended t xs → EndWithLoop t K xs
 
 -- Of every table:
 pub record StuckSet (t : Table) : Type 0 where

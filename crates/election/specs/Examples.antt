@@ -1,5 +1,5 @@
 -- Examples of tables and of runs that can go no further: what demand 3 supposes is met.
-use Prim.Native.Nat.{ℕ, _≤_}
+use Prim.Native.Nat.{ℕ, _+_, _≤_}
 use mathlib.Core.Bool.{true, false}
 use mathlib.Core.Path.{_≡_}
 use mathlib.Core.List.{List, [], _∷_}
@@ -7,10 +7,10 @@ use lib.ListN.{length}
 use Rattle.paper.specs.Table.{Table, tableOf, EndsBelow, NoSelfLink, OnePiece}
 use Rattle.paper.specs.Steps.{Step, childrenKnown, addChild, acknowledge, resolve, becomeRoot, resolved}
 use Rattle.paper.specs.Stuck.{Stuck, size, border}
-use Rattle.paper.specs.Report.{roots}
-use Rattle.paper.specs.Replays.{P3, P8, P9, P10}
+use Rattle.paper.specs.Replays.{P3, P8, P9, P10, P12-table}
 use Rattle.paper.specs.Examples.{twoLoops, tail}
-use Rattle.election.specs.Demand.{reachedBy, Ended}
+use Rattle.election.specs.Demand.{reachedBy, Ended, RunWithoutLoop, EndWithoutLoop, RunWithLoop, EndWithLoop}
+use Rattle.election.specs.Logs.{LogIsRun, IsLogOf}
 
 -- P9: a chain of three
 abbrev pub chainRun : List Step
@@ -46,20 +46,25 @@ pub record Example (t : Table) (xs : List Step) : Type 0 where
   pub joined : OnePiece t
   pub ended : Ended t xs
 
--- no loop: a run's steps, contentions resolved and roots
+-- no loop: a run's steps and contentions resolved, and all that demand 3 says of it
 pub record Elects (t : Table) (xs : List Step) (steps contentions : ℕ) : Type 0 where
   pub example : Example t xs
+  pub noLoop : t .links + 1 ≡ t .nodes
   pub taking : length xs ≡ steps
   pub resolving : resolved xs ≡ contentions
-  pub electing : roots t (reachedBy t xs) ≡ 1
+  pub every : RunWithoutLoop t xs
+  pub end : EndWithoutLoop t xs
 
--- a loop: a run's steps, and the stuck set that it leaves, its size and its border
+-- a loop: a run's steps, the stuck set that it leaves with its size and its border, and all that demand 3 says of it
 pub record Sticks (t : Table) (xs : List Step) (steps k out : ℕ) : Type 0 where
   pub example : Example t xs
+  pub loop : t .nodes ≤ t .links
   pub taking : length xs ≡ steps
   pub stuck : Stuck t (reachedBy t xs .waiting)
   pub holding : size t (reachedBy t xs .waiting) ≡ k
   pub bordering : border t (reachedBy t xs .waiting) ≡ out
+  pub every : RunWithLoop t xs
+  pub end : EndWithLoop t (reachedBy t xs .waiting) xs
 
 pub record Examples : Type 0 where
   -- n 3: 3n - 1 steps, no contention
@@ -74,3 +79,6 @@ pub record Examples : Type 0 where
   pub betweenLoops : Sticks (tableOf twoLoops) [] 0 7 0
   -- two links between two nodes: both are stuck
   pub twoLinks : Sticks (tableOf P10) [] 0 2 0
+  -- the log of the two nodes that contend is P3, with the table of P12
+  pub contendingLog : LogIsRun P3 contendingRun
+  pub logOfContending : IsLogOf P12-table contendingRun P3

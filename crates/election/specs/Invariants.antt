@@ -8,8 +8,7 @@ use Rattle.paper.specs.State.{none, request, acknowledgement, State}
 
 -- The published names: init is waiting, contention is contending, mq[e] is the message on e, its head is true for an acknowledgement
 -- and false for a request, and the reverse of e = (i, b) is (i, not b). Two numbers are left out: 5 says that a direction carries at
--- most one message, which the type of message says already; 15 says that at most one node has child on every direction into it,
--- which speaks of tables without a loop.
+-- most one message, which the type of message says already; 15 stands below, because it speaks of all nodes together.
 pub record Published (t : Table) (s : State) : Type 0 where
   -- a node that waits does not contend
   pub i1 : (v : ℕ) → v < t .nodes → s .waiting v ≡ true → s .contending v ≡ false
@@ -41,3 +40,11 @@ pub record Published (t : Table) (s : State) : Type 0 where
   pub i16 : (i : ℕ) (b : Bool) → i < t .links → s .waiting (target t i b) ≡ true → s .child i b ≡ false → s .message i b ≡ none → s .waiting (source t i b) ≡ true
   -- where the source has stopped waiting, there is no message, and neither the direction nor its reverse is child, the target contends
   pub i17 : (i : ℕ) (b : Bool) → i < t .links → s .waiting (source t i b) ≡ false → s .message i b ≡ none → s .child i b ≡ false → s .child i (not b) ≡ false → s .contending (target t i b) ≡ true
+
+-- every direction into v is child
+abbrev pub AllChild : Table → State → ℕ → Type 0
+AllChild t s v = (i : ℕ) (b : Bool) → i < t .links → target t i b ≡ v → s .child i b ≡ true
+
+-- 15: at most one node has child on every direction into it
+abbrev pub OneAllChild : Table → State → Type 0
+OneAllChild t s = (v w : ℕ) → v < t .nodes → w < t .nodes → AllChild t s v → AllChild t s w → v ≡ w

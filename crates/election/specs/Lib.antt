@@ -1,4 +1,5 @@
 pub mod Local
 pub mod Demand
+pub mod Logs
 pub mod Invariants
 pub mod Examples

@@ -1,7 +1,7 @@
 -- The bytes that each step stores in a lent sound image make the image of the step's effect.
 use Prim.Native.Nat.{ℕ, _<_, _+_, _*_}
 use mathlib.Core.Bool.{Bool, true, false, not, cond, _&&_, Bool·beq}
-use mathlib.Core.Path.{_≡_, refl, sym, ap, subst, _∙_}
+use mathlib.Core.Path.{_≡_, refl, sym, ap, _∙_}
 use mathlib.Core.List.{List}
 use native.Mathlib.Omega.{arith}
 use lib.Dec.{eqb}
@@ -11,7 +11,7 @@ use Rattle.counting.specs.Count.{bit}
 use Rattle.paper.specs.Upload.{byteAt, nodesOf, linksOf}
 use Rattle.paper.specs.Table.{Table, tableOf, source, target}
 use Rattle.paper.specs.State.{Message, none, State}
-use Rattle.paper.specs.Steps.{effect, childrenKnown, addChild, acknowledge, resolve, becomeRoot, isRequest}
+use Rattle.paper.specs.Steps.{effect, addChild, acknowledge, resolve, becomeRoot, isRequest}
 use Rattle.paper.specs.Image.{imageOf, imageLength, directionAt, messageNumber, stateOf, sound}
 use Rattle.paper.proofs.Images.{image-of-state}
 use Rattle.marks.specs.Lent.{Lent}

@@ -1,14 +1,16 @@
 -- The messages of children known, link by link: the bytes that they change, and the state that they show.
-use Prim.Native.Nat.{ℕ, _+_, _*_, _%_, _<_, _≤_}
+use Prim.Native.Nat.{ℕ, _+_, _*_, _%_, _<_}
 use mathlib.Core.Bool.{Bool, true, false, not, cond, _&&_, _||_, Bool·beq}
 use mathlib.Core.Path.{_≡_, refl, sym, ap, _∙_, fun-ext}
 use mathlib.Core.List.{List}
 use native.Mathlib.Omega.{arith}
 use native.Mathlib.Decide.{ℕ-discrete, decLt}
 use lib.Dec.{ltb, eqb}
+use lib.ListN.{set}
 use borrow.Author.Tests.{eq-eqb, ne-eqb, lt-ltb, le-ltb}
 use Rattle.counting.specs.Count.{bit}
 use Rattle.counting.proofs.Bits.{bit-most}
+use Rattle.paper.specs.Upload.{byteAt}
 use Rattle.paper.specs.Table.{Table, source}
 use Rattle.paper.specs.State.{Message, State}
 use Rattle.paper.specs.Steps.{sends}
@@ -67,6 +69,24 @@ sent-step t s x p i b h = go (eqb (source t i b) x) refl
         b
         (rw e (ap (λ m. bit (s .child i b) + 2 * messageNumber m) (sym (cond-never (p i b) (sends (s .child i (not b))) (s .message i b)))))
         (λ j c. refl))
+
+-- what is stored on a direction from x, and that nothing is stored on another
+module _ (t : Table) (x i : ℕ) (b : Bool) (image : List ℕ) (end : ℕ) (ends : end ≡ source t i b) where
+  pub sent-here : (d v : ℕ) (child : Bool) → end ≡ x → d ≡ directionAt t i b → child ≡ stateOf t image .child i (not b) → v ≡ messageByte (1 + bit child) (byteAt image d) → set image d v ≡ sent t x i b image
+  unfolding sent
+  sent-here d v child here at-d had stores = rw (eq-eqb (source t i b) x (sym ends ∙ here)) (stored ∙ ap (λ c. changed (messageByte (1 + bit c)) (directionAt t i b) image) had)
+    where
+      stored : set image d v ≡ changed (messageByte (1 + bit child)) (directionAt t i b) image
+      stored = ap (λ v. set image d v) stores ∙ ap (λ d. changed (messageByte (1 + bit child)) d image) at-d
+
+  pub sent-away : (end ≡ x → ⊥) → image ≡ sent t x i b image
+  unfolding sent
+  sent-away away = rw (ne-eqb (source t i b) x (λ e. away (ends ∙ e)))
+
+-- first on one direction of the link, then back
+pub sent-both : (t : Table) (x i : ℕ) (image first second : List ℕ) → first ≡ sent t x i false image → second ≡ sent t x i true first → second ≡ sentOn t x i image
+unfolding sentOn
+sent-both t x i image first second e f = f ∙ ap (sent t x i true) e
 
 one-more : (k j : ℕ) (c : Bool) → also (also (λ i b. ltb i k) k false) k true j c ≡ ltb j (k + 1)
 one-more k j c = go (ℕ-discrete j k) (decLt j k) c

@@ -1,23 +1,23 @@
 -- One byte stored in the image of a state: the image of the state with that mark or message changed.
-use Prim.Native.Nat.{ℕ, _+_, _*_, _/_, _%_, _<_, _≤_}
-use mathlib.Core.Bool.{Bool, true, false, not, cond, _&&_, _||_, Bool·beq}
-use mathlib.Core.Path.{_≡_, refl, sym, ap, subst, _∙_, fun-ext}
+use Prim.Native.Nat.{ℕ, _+_, _*_, _<_}
+use mathlib.Core.Bool.{Bool, true, false, cond, _&&_, Bool·beq}
+use mathlib.Core.Path.{_≡_, refl, _∙_}
 use mathlib.Core.List.{List}
 use native.Mathlib.Omega.{arith}
-use native.Mathlib.Decide.{ℕ-discrete, decLt}
-use lib.Dec.{ltb, eqb}
-use lib.ListN.{length, getD, set, length-set}
+use native.Mathlib.Decide.{ℕ-discrete}
+use lib.Dec.{eqb}
+use lib.ListN.{length, set, length-set}
 use lib.Seq.{getD-set-same, getD-set-other}
-use borrow.Author.Tests.{eqb-true, eqb-false, eq-eqb, ne-eqb, lt-ltb, le-ltb}
+use borrow.Author.Tests.{eq-eqb, ne-eqb}
 use Rattle.counting.specs.Count.{bit}
 use Rattle.counting.proofs.Bits.{bit-most}
 use Rattle.paper.specs.Upload.{byteAt}
-use Rattle.paper.specs.Table.{Table, source}
-use Rattle.paper.specs.State.{Message, none, request, acknowledgement, State}
-use Rattle.paper.specs.Steps.{at, atDirection, sends}
-use Rattle.paper.specs.Image.{nodeByte, messageNumber, directionByte, imageOf, imageLength, directionAt, odd, stateOf}
+use Rattle.paper.specs.Table.{Table}
+use Rattle.paper.specs.State.{Message, State}
+use Rattle.paper.specs.Steps.{at}
+use Rattle.paper.specs.Image.{nodeByte, messageNumber, directionByte, imageOf, directionAt}
 use Rattle.paper.proofs.Images.{image-length, image-node, image-direction, image-is}
-use Rattle.image.specs.Parts.{contendingAt, rootAt, childAt, messageAt, sentWhere, sentBelow, stoppedByte, contendingByte, rootByte, childByte, messageByte, changed, sent, sentOn}
+use Rattle.image.specs.Parts.{contendingAt, rootAt, childAt, messageAt, stoppedByte, contendingByte, rootByte, childByte, messageByte, changed}
 
 -- a list with one byte changed, read at a place
 byte-changed : (f : ℕ → ℕ) (j : ℕ) (l : List ℕ) (k : ℕ) → j < length l → byteAt (changed f j l) k ≡ cond (eqb k j) (f (byteAt l k)) (byteAt l k)

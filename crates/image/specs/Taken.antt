@@ -5,9 +5,9 @@ use mathlib.Core.Path.{_≡_}
 use mathlib.Core.List.{List}
 use Rattle.paper.specs.Table.{Table, tableOf}
 use Rattle.paper.specs.State.{State}
-use Rattle.paper.specs.Steps.{Step, effect}
+use Rattle.paper.specs.Steps.{Step}
 use Rattle.paper.specs.Actions.{ofNode, nodeStep, linkStep}
-use Rattle.paper.specs.Image.{imageOf, stateOf, sound}
+use Rattle.paper.specs.Image.{stateOf, sound}
 use Rattle.marks.specs.Lent.{Lent}
 
 -- kinds 1 and 5 name the step at node x, the others that on the direction (i, b)

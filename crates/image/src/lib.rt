@@ -208,10 +208,10 @@ pub fn children_known(upload: &[u8], image: &mut [u8], x: usize)
 {
     let m = upload::links(upload);
     image[x] = stopped_byte(image[x]);
-    let mut i = 0;
-    while i < m {
-        send_on(upload, image, x, i);
-        i += 1;
+    let mut link = 0;
+    while link < m {
+        send_on(upload, image, x, link);
+        link += 1;
     }
 }
 

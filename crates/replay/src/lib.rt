@@ -1,11 +1,15 @@
 // The public calls: fresh, report, list, step, run and replay, each with every refusal and place in document 01's order.
 ghost use mathlib.Core.Path.{_≡_};
-ghost use mathlib.Core.Bool.{_&&_};
+ghost use mathlib.Core.Bool.{true, _&&_};
 ghost use Prim.Native.Nat.{_+_, _*_, _<_, _≤_};
+ghost use Rattle.paper.specs.Upload.{byteAt, actionsOf, actionAt};
 ghost use Rattle.paper.specs.Table.{tableOf};
-ghost use Rattle.paper.specs.Image.{fits, sound};
+ghost use Rattle.paper.specs.Image.{imageLength, fits, sound, stateOf};
 ghost use Rattle.paper.specs.Refusals.{tableRefusal};
-ghost use Rattle.paper.specs.Calls.{refusedWith};
+ghost use Rattle.paper.specs.Calls.{refusedWith, reported, reportAnswer, freshAnswer, freshImage, stepAnswer, stepImage, replayed, replayAnswer};
+ghost use Rattle.marks.specs.Lent.{Lent};
+ghost use Rattle.replay.specs.Taken.{Taken};
+ghost use Rattle.replay.specs.Replaying.{ReplayedTo};
 ghost use Rattle.table.specs.Accepted.{Accepted};
 
 // A refusal that is not of an action.
@@ -33,12 +37,20 @@ fn table_answer(upload: &[u8]) -> paper::Answer
     }
 }
 
+// n + 2m.
+fn image_length(upload: &[u8]) -> usize
+    requires { ⌜ Accepted (now upload) ⌝ }
+    ensures { λ r. ⌜ (r ≡ imageLength (tableOf (now (upload .entry)))) × (r ≤ 315) ⌝ }
+{
+    upload::nodes(upload) + 2 * upload::links(upload)
+}
+
 // The image has n + 2m bytes.
 fn fitting(upload: &[u8], image: &[u8]) -> bool
     requires { ⌜ Accepted (now upload) ⌝ }
     ensures { λ r. ⌜ r ≡ fits (tableOf (now (upload .entry))) (now (image .entry)) ⌝ }
 {
-    image.len() == upload::nodes(upload) + 2 * upload::links(upload)
+    image.len() == image_length(upload)
 }
 
 // The image has n + 2m bytes and is sound.
@@ -51,4 +63,142 @@ fn good_image(upload: &[u8], image: &[u8]) -> bool
     } else {
         false
     }
+}
+
+// The report of a lent image, behind a refusal, its place and the steps taken.
+fn reporting(upload: &[u8], image: &[u8], number: u8, place: u16, steps: u16) -> paper::Answer
+    requires { ⌜ Lent (now upload) (now image) ⌝ }
+    ensures { λ r. ⌜ r ≡ reported (record { number = number; place = place }) steps (tableOf (now (upload .entry))) (stateOf (tableOf (now (upload .entry))) (now (image .entry))) ⌝ }
+{
+    let report = automaton::report_of(upload, image);
+    paper::Answer {
+        refusal: number,
+        place: place,
+        steps: steps,
+        outcome: report.outcome,
+        root: report.root,
+        waiting: report.waiting,
+    }
+}
+
+// Report: of a lent image.
+pub fn report(upload: &[u8], image: &[u8]) -> paper::Answer
+    ensures { λ r. ⌜ r ≡ reportAnswer (now (upload .entry)) (now (image .entry)) ⌝ }
+{
+    let checked = table_answer(upload);
+    if checked.refusal != 0 {
+        return checked;
+    }
+    if !good_image(upload, image) {
+        return refused(12, 0);
+    }
+    reporting(upload, image, 0, 0, 0)
+}
+
+// Fresh: makes the fresh image.
+pub fn fresh(upload: &[u8], image: &mut [u8]) -> paper::Answer
+    ensures { λ r. ⌜ r ≡ freshAnswer (now (upload .entry)) (now (image .entry)) ⌝ }
+    ensures { λ _. ⌜ now (image .exit) ≡ freshImage (now (upload .entry)) (now (image .entry)) ⌝ }
+{
+    let checked = table_answer(upload);
+    if checked.refusal != 0 {
+        return checked;
+    }
+    if !fitting(upload, image) {
+        return refused(12, 0);
+    }
+    image::make_fresh(upload, image);
+    reporting(upload, image, 0, 0, 0)
+}
+
+// Takes an action if it can be taken, and answers the number by which it is refused, 0 if it is taken.
+fn act(upload: &[u8], image: &mut [u8], kind: u8, x: u8, y: u8) -> u8
+    requires { ⌜ Lent (now upload) (now image) × (sound (tableOf (now upload)) (now image) ≡ true) ⌝ }
+    ensures { λ r. ⌜ Taken (now (upload .entry)) (now (image .entry)) kind x y r (now (image .exit)) ⌝ }
+{
+    let tried = automaton::try_action(upload, image, kind, x, y);
+    if tried.number == 0 {
+        image::take(upload, image, kind, x as usize, tried.link, tried.back);
+    }
+    tried.number
+}
+
+// Step: one action on a lent image, as action 0.
+pub fn step(upload: &[u8], image: &mut [u8], kind: u8, x: u8, y: u8) -> paper::Answer
+    ensures { λ r. ⌜ r ≡ stepAnswer (now (upload .entry)) (now (image .entry)) kind x y ⌝ }
+    ensures { λ _. ⌜ now (image .exit) ≡ stepImage (now (upload .entry)) (now (image .entry)) kind x y ⌝ }
+{
+    let checked = table_answer(upload);
+    if checked.refusal != 0 {
+        return checked;
+    }
+    if !good_image(upload, image) {
+        return refused(12, 0);
+    }
+    let number = act(upload, image, kind, x, y);
+    reporting(upload, image, number, 0, (number == 0) as u16)
+}
+
+// Where a replay has come to: the refusal of its first refused action with its place, and the number of actions taken.
+struct Stopped {
+    number: u8,
+    place: u16,
+    steps: u16,
+}
+
+// Tries action i of an upload on a lent image.
+fn act_at(upload: &[u8], image: &mut [u8], i: usize) -> u8
+    requires { ⌜ Lent (now upload) (now image) × (sound (tableOf (now upload)) (now image) ≡ true) × (i < actionsOf (now upload)) ⌝ }
+    ensures { λ r. ⌜ Taken (now (upload .entry)) (now (image .entry)) (byteAt (now (upload .entry)) (actionAt (now (upload .entry)) i)) (byteAt (now (upload .entry)) (actionAt (now (upload .entry)) i + 1)) (byteAt (now (upload .entry)) (actionAt (now (upload .entry)) i + 2)) r (now (image .exit)) ⌝ }
+{
+    let at = 4 + 2 * upload::links(upload) + 3 * i;
+    act(upload, image, upload[at], upload[at + 1], upload[at + 2])
+}
+
+// Makes the image fresh and takes the actions in turn, until one is refused or none is left.
+fn replay_into(upload: &[u8], image: &mut [u8]) -> Stopped
+    requires { ⌜ Lent (now upload) (now image) ⌝ }
+    ensures { λ r. ⌜ ReplayedTo (now (upload .entry)) r (now (image .exit)) ⌝ }
+{
+    image::make_fresh(upload, image);
+    let a = upload::actions(upload);
+    let mut i: usize = 0;
+    while i < a {
+        let number = act_at(upload, image, i);
+        if number != 0 {
+            return Stopped {
+                number: number,
+                place: i as u16,
+                steps: i as u16,
+            };
+        }
+        i += 1;
+    }
+    Stopped {
+        number: 0,
+        place: 0,
+        steps: a as u16,
+    }
+}
+
+// Replays into a lent image, and reports.
+fn replay_on(upload: &[u8], image: &mut [u8]) -> paper::Answer
+    requires { ⌜ Lent (now upload) (now image) ⌝ }
+    ensures { λ r. ⌜ r ≡ reported (replayed (now (upload .entry)) .refusal) (replayed (now (upload .entry)) .steps) (tableOf (now (upload .entry))) (replayed (now (upload .entry)) .state) ⌝ }
+{
+    let stopped = replay_into(upload, image);
+    reporting(upload, image, stopped.number, stopped.place, stopped.steps)
+}
+
+// Replay: the actions of an upload, from the fresh state.
+pub fn replay(upload: &[u8]) -> paper::Answer
+    ensures { λ r. ⌜ r ≡ replayAnswer (now (upload .entry)) ⌝ }
+{
+    let checked = table_answer(upload);
+    if checked.refusal != 0 {
+        return checked;
+    }
+    let mut buffer: [u8; 315] = [0; 315];
+    let k = image_length(upload);
+    replay_on(upload, &mut buffer[..k])
 }

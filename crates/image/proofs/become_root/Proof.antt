@@ -2,27 +2,19 @@ use borrow.Author.Needs.{needs}
 use Rattle.image.proofs.Effects.{root-made}
 use Rattle.image.proofs.become_root.Statement.{statement}
 use Rattle.image.proofs.become_root.Tie as tie
-use Rattle.image.proofs.become_root.Reads as reads
-use Rattle.image.proofs.become_root.Lts as lts
-use Rattle.image.proofs.root_byte.Reads as root-byte-reads
 
--- src/lib.rt:144:26
 slice-read-root-byte : tie.Need-slice-read-root-byte
 slice-read-root-byte c = search needs
 
--- src/lib.rt:144:16
 root-byte-requires : tie.Need-root-byte-requires
 root-byte-requires c κs = search needs
 
--- src/lib.rt:144:5
 slice-write-image : tie.Need-slice-write-image
 slice-write-image c = search needs
 
--- src/lib.rt:140:1
 same-length : tie.Need-same-length
 same-length c = search needs
 
--- src/lib.rt:140:1
 returns : tie.Need-returns
 returns c =
     let at = c .before .before .before .before in

@@ -3,30 +3,22 @@ use native.Mathlib.Omega.{arith}
 use Rattle.counting.proofs.Bits.{bit-most}
 use Rattle.image.proofs.contending_byte.Statement.{statement}
 use Rattle.image.proofs.contending_byte.Tie as tie
-use Rattle.image.proofs.contending_byte.Reads as reads
-use Rattle.image.proofs.contending_byte.Lts as lts
 
--- src/lib.rt:114:17
 cast-result : tie.Need-cast-result
 cast-result c = search needs
 
--- src/lib.rt:114:13
 mul-result : tie.Need-mul-result
 mul-result c = omega (arith, bit-most (c .args .contends))
 
--- src/lib.rt:114:5
 add-result : tie.Need-add-result
 add-result c = omega (arith, bit-most (c .args .contends))
 
--- src/lib.rt:114:34
 mul-result-2 : tie.Need-mul-result-2
 mul-result-2 c = search needs
 
--- src/lib.rt:114:5
 add-result-2 : tie.Need-add-result-2
 add-result-2 c = omega (arith, bit-most (c .args .contends))
 
--- src/lib.rt:111:1
 returns : tie.Need-returns
 returns c = search needs
 

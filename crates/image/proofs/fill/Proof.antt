@@ -7,8 +7,6 @@ use native.Mathlib.Numerals.{add-one}
 use Rattle.image.specs.Parts.{filled}
 use Rattle.image.proofs.fill.Statement.{statement}
 use Rattle.image.proofs.fill.Tie as tie
-use Rattle.image.proofs.fill.Reads as reads
-use Rattle.image.proofs.fill.Lts as lts
 
 abbrev Inv-loop : tie.InvT-loop
 Inv-loop image₀ from count value k₀ image k = (k ≤ count) × (length image ≡ length image₀) × (image ≡ filled image₀ from k value)
@@ -16,28 +14,22 @@ Inv-loop image₀ from count value k₀ image k = (k ≤ count) × (length image
 abbrev μ-loop : tie.MeasureT-loop
 μ-loop image₀ from count value k₀ image k = count - k
 
--- src/lib.rt:86:5
 loop-holds : tie.Need-loop-holds Inv-loop μ-loop
 unfolding filled
 loop-holds c = (omega arith, refl, refl)
 
--- src/lib.rt:87:15
 add-image : tie.Need-add-image Inv-loop μ-loop
 add-image c = omega arith
 
--- src/lib.rt:87:9
 slice-write-image : tie.Need-slice-write-image Inv-loop μ-loop
 slice-write-image c = omega arith
 
--- src/lib.rt:88:9
 add-k : tie.Need-add-k Inv-loop μ-loop
 add-k c = omega arith
 
--- src/lib.rt:86:5
 loop-less : tie.Need-loop-less Inv-loop μ-loop
 loop-less c = omega arith
 
--- src/lib.rt:86:5
 loop-again : tie.Need-loop-again Inv-loop μ-loop
 unfolding filled
 loop-again c =
@@ -45,11 +37,9 @@ loop-again c =
     let k = c .before .loop .k in
     (omega arith, simp length-set (c .before .loop .inv .1), rw (add-one k) (ap (λ (l : List ℕ). set l (at .from + k) (at .value)) (c .before .loop .inv .2)))
 
--- src/lib.rt:81:1
 same-length : tie.Need-same-length Inv-loop μ-loop
 same-length c = c .before .loop .inv .1
 
--- src/lib.rt:81:1
 returns : tie.Need-returns Inv-loop μ-loop
 returns c =
     let end : c .before .loop .k ≡ c .before .before .args .count = omega arith in

@@ -9,12 +9,9 @@ use Rattle.counting.specs.Count.{all}
 use Rattle.paper.specs.Upload.{linksOf}
 use Rattle.paper.specs.Table.{tableOf}
 use Rattle.paper.specs.Image.{soundDirection}
+use Rattle.image.proofs.Judged.{both-same}
 use Rattle.image.proofs.links_sound.Statement.{statement}
 use Rattle.image.proofs.links_sound.Tie as tie
-use Rattle.image.proofs.links_sound.Reads as reads
-use Rattle.image.proofs.links_sound.Lts as lts
-use Rattle.image.proofs.link_sound.Reads as link-sound-reads
-use Rattle.upload.proofs.links.Reads as links-reads
 
 abbrev Inv-loop : tie.InvT-loop
 Inv-loop upload image m good₀ i₀ good i = (i ≤ m) × (good ≡ all i (λ i. soundDirection (tableOf upload) image i false && soundDirection (tableOf upload) image i true))
@@ -22,35 +19,28 @@ Inv-loop upload image m good₀ i₀ good i = (i ≤ m) × (good ≡ all i (λ i
 abbrev μ-loop : tie.MeasureT-loop
 μ-loop upload image m good₀ i₀ good i = m - i
 
--- src/lib.rt:47:9
 links-requires : tie.Need-links-requires Inv-loop μ-loop
 links-requires c κs = search needs
 
--- src/lib.rt:50:5
 loop-holds : tie.Need-loop-holds Inv-loop μ-loop
 unfolding all
 loop-holds c = (search needs, refl)
 
--- src/lib.rt:51:23
 link-sound-requires : tie.Need-link-sound-requires Inv-loop μ-loop
 link-sound-requires c κs = search needs
 
--- src/lib.rt:52:9
 add-i : tie.Need-add-i Inv-loop μ-loop
 add-i c = search needs
 
--- src/lib.rt:50:5
 loop-less : tie.Need-loop-less Inv-loop μ-loop
 loop-less c = search needs
 
--- src/lib.rt:50:5
 loop-again : tie.Need-loop-again Inv-loop μ-loop
 unfolding all
 loop-again c =
     let at = c .before .before .loop in
-    (search needs, rw (add-one (at .i)) (cc))
+    (search needs, rw (add-one (at .i)) (both-same (at .good) (c .link-sound .result) (at .inv .1) (c .link-sound .ensures)))
 
--- src/lib.rt:43:1
 returns : tie.Need-returns Inv-loop μ-loop
 returns c =
     let at = c .before .before .before .before .before in

@@ -7,37 +7,25 @@ use Rattle.image.specs.Parts.{filled}
 use Rattle.image.proofs.Filled.{fresh-filled}
 use Rattle.image.proofs.make_fresh.Statement.{statement}
 use Rattle.image.proofs.make_fresh.Tie as tie
-use Rattle.image.proofs.make_fresh.Reads as reads
-use Rattle.image.proofs.make_fresh.Lts as lts
-use Rattle.image.proofs.fill.Reads as fill-reads
-use Rattle.upload.proofs.links.Reads as links-reads
-use Rattle.upload.proofs.nodes.Reads as nodes-reads
 
--- src/lib.rt:97:9
 nodes-requires : tie.Need-nodes-requires
 nodes-requires c κs = search needs
 
--- src/lib.rt:98:9
 links-requires : tie.Need-links-requires
 links-requires c κs = search needs
 
--- src/lib.rt:99:5
 fill-requires : tie.Need-fill-requires
 fill-requires c κs = search needs
 
--- src/lib.rt:100:20
 mul-fill : tie.Need-mul-fill
 mul-fill c = search needs
 
--- src/lib.rt:100:5
 fill-requires-2 : tie.Need-fill-requires-2
 fill-requires-2 c κs = search needs
 
--- src/lib.rt:93:1
 same-length : tie.Need-same-length
 same-length c = search needs
 
--- src/lib.rt:93:1
 returns : tie.Need-returns
 returns c =
     let at = c .before .before .before .before .before .before .before .before .before .before .before .before in

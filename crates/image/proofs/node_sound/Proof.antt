@@ -4,15 +4,10 @@ use mathlib.Core.Path.{ap}
 use lib.Dec.{ltb}
 use Rattle.image.proofs.node_sound.Statement.{statement}
 use Rattle.image.proofs.node_sound.Tie as tie
-use Rattle.image.proofs.node_sound.Reads as reads
-use Rattle.image.proofs.node_sound.Lts as lts
-use Rattle.upload.proofs.byte.Reads as byte-reads
 
--- src/lib.rt:21:5
 byte-requires : tie.Need-byte-requires
 byte-requires c κs = search needs
 
--- src/lib.rt:17:1
 returns : tie.Need-returns
 returns c = ap (λ (k : ℕ). ltb k 8) (c .byte .ensures .0)
 

@@ -7,12 +7,9 @@ use lib.Dec.{ltb}
 use denote.Ref.{now}
 use Rattle.counting.specs.Count.{all}
 use Rattle.paper.specs.Upload.{byteAt, nodesOf}
+use Rattle.image.proofs.Judged.{both-same}
 use Rattle.image.proofs.nodes_sound.Statement.{statement}
 use Rattle.image.proofs.nodes_sound.Tie as tie
-use Rattle.image.proofs.nodes_sound.Reads as reads
-use Rattle.image.proofs.nodes_sound.Lts as lts
-use Rattle.image.proofs.node_sound.Reads as node-sound-reads
-use Rattle.upload.proofs.nodes.Reads as nodes-reads
 
 abbrev Inv-loop : tie.InvT-loop
 Inv-loop upload image n good₀ x₀ good x = (x ≤ n) × (good ≡ all x (λ x. ltb (byteAt image x) 8))
@@ -20,35 +17,28 @@ Inv-loop upload image n good₀ x₀ good x = (x ≤ n) × (good ≡ all x (λ x
 abbrev μ-loop : tie.MeasureT-loop
 μ-loop upload image n good₀ x₀ good x = n - x
 
--- src/lib.rt:47:9
 nodes-requires : tie.Need-nodes-requires Inv-loop μ-loop
 nodes-requires c κs = search needs
 
--- src/lib.rt:50:5
 loop-holds : tie.Need-loop-holds Inv-loop μ-loop
 unfolding all
 loop-holds c = (search needs, refl)
 
--- src/lib.rt:51:23
 node-sound-requires : tie.Need-node-sound-requires Inv-loop μ-loop
 node-sound-requires c κs = search needs
 
--- src/lib.rt:52:9
 add-x : tie.Need-add-x Inv-loop μ-loop
 add-x c = search needs
 
--- src/lib.rt:50:5
 loop-less : tie.Need-loop-less Inv-loop μ-loop
 loop-less c = search needs
 
--- src/lib.rt:50:5
 loop-again : tie.Need-loop-again Inv-loop μ-loop
 unfolding all
 loop-again c =
     let at = c .before .before .loop in
-    (search needs, rw (add-one (at .x)) (cc))
+    (search needs, rw (add-one (at .x)) (both-same (at .good) (c .node-sound .result) (at .inv .1) (c .node-sound .ensures)))
 
--- src/lib.rt:43:1
 returns : tie.Need-returns Inv-loop μ-loop
 returns c =
     let at = c .before .before .before .before .before in

@@ -1,36 +1,26 @@
 use borrow.Author.Needs.{needs}
 use Rattle.image.proofs.take.Statement.{statement}
 use Rattle.image.proofs.take.Tie as tie
-use Rattle.image.proofs.take.Reads as reads
-use Rattle.image.proofs.take.Lts as lts
-use Rattle.image.proofs.take_at_node.Reads as take-at-node-reads
-use Rattle.image.proofs.take_on_link.Reads as take-on-link-reads
 
--- src/lib.rt:250:9
 take-at-node-requires : tie.Need-take-at-node-requires
 take-at-node-requires c κs =
     let pre = c .before .before .before .before .pre in
     (pre .0, pre .1, pre .2 .node (c .before .if1 .taken))
 
--- src/lib.rt:252:9
 take-on-link-requires : tie.Need-take-on-link-requires
 take-on-link-requires c κs =
     let pre = c .before .before .before .before .pre in
     (pre .0, pre .1, pre .2 .link (c .before .if1 .left))
 
--- src/lib.rt:245:1
 same-length : tie.Need-same-length
 same-length c = search needs
 
--- src/lib.rt:245:1
 returns : tie.Need-returns
 returns c = rw (c .before .before .before .before .if1 .taken) (c .before .before .take-at-node .ensures)
 
--- src/lib.rt:245:1
 same-length-2 : tie.Need-same-length-2
 same-length-2 c = search needs
 
--- src/lib.rt:245:1
 returns-2 : tie.Need-returns-2
 returns-2 c = rw (c .before .before .before .before .if1 .left) (c .before .before .take-on-link .ensures)
 

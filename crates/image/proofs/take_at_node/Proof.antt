@@ -2,34 +2,24 @@ use borrow.Author.Needs.{needs}
 use borrow.Author.Tests.{eq-eqb, ne-eqb}
 use Rattle.image.proofs.take_at_node.Statement.{statement}
 use Rattle.image.proofs.take_at_node.Tie as tie
-use Rattle.image.proofs.take_at_node.Reads as reads
-use Rattle.image.proofs.take_at_node.Lts as lts
-use Rattle.image.proofs.become_root.Reads as become-root-reads
-use Rattle.image.proofs.children_known.Reads as children-known-reads
 
--- src/lib.rt:224:9
 children-known-requires : tie.Need-children-known-requires
 children-known-requires c κs = search needs
 
--- src/lib.rt:226:9
 become-root-requires : tie.Need-become-root-requires
 become-root-requires c κs = search needs
 
--- src/lib.rt:219:1
 same-length : tie.Need-same-length
 same-length c = search needs
 
--- src/lib.rt:219:1
 returns : tie.Need-returns
 returns c =
     let test = c .before .before .before .before in
     rw (eq-eqb (test .before .before .before .args .kind) 1 (test .if1 .taken)) (c .before .before .children-known .ensures)
 
--- src/lib.rt:219:1
 same-length-2 : tie.Need-same-length-2
 same-length-2 c = search needs
 
--- src/lib.rt:219:1
 returns-2 : tie.Need-returns-2
 returns-2 c =
     let test = c .before .before .before .before in

@@ -1,0 +1,4 @@
+pub mod Tests
+pub mod Independent
+pub mod Text
+pub mod Unique

@@ -1,0 +1,5 @@
+pub mod Written
+pub mod Decimal
+pub mod Ordered
+pub mod Room
+pub mod Unique

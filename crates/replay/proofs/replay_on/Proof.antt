@@ -1,0 +1,33 @@
+use borrow.Author.Needs.{needs}
+use mathlib.Core.Path.{sym, ap, _∙_}
+use denote.Ref.{now}
+use Rattle.paper.specs.Table.{tableOf}
+use Rattle.paper.specs.Calls.{Replayed, reported}
+use Rattle.replay.proofs.replay_on.Statement.{statement}
+use Rattle.replay.proofs.replay_on.Tie as tie
+use Rattle.replay.proofs.replay_on.Reads as reads
+use Rattle.replay.proofs.replay_on.Lts as lts
+use Rattle.replay.proofs.replay_into.Reads as replay-into-reads
+use Rattle.replay.proofs.reporting.Reads as reporting-reads
+
+-- src/lib.rt:181:9
+replay-into-requires : tie.Need-replay-into-requires
+replay-into-requires c κs = search needs
+
+-- src/lib.rt:182:5
+reporting-requires : tie.Need-reporting-requires
+reporting-requires c κs = search needs
+
+-- src/lib.rt:177:1
+same-length : tie.Need-same-length
+same-length c = search needs
+
+-- src/lib.rt:177:1
+returns : tie.Need-returns
+returns c =
+    let done = c .before .before .before .before in
+    let up = now (done .before .before .before .before .args .upload) in
+    c .reporting .ensures ∙ ap (λ (w : Replayed). reported (w .refusal) (w .steps) (tableOf up) (w .state)) (sym (done .replay-into .ensures .is))
+
+pub replay-on-spec : {M : Type 1} → statement M
+replay-on-spec = tie.close (tie.spec replay-into-requires reporting-requires same-length returns)
