@@ -7,7 +7,7 @@ use mathlib.Core.List.{List, [], _∷_}
 use native.Mathlib.Omega.{arith}
 use lib.ListN.{length}
 use lib.Dec.{ltb, leb, eqb}
-use borrow.Author.Tests.{eqb-true, ne-eqb, le-leb, lt-leb, leb-true, ltb-false}
+use borrow.Author.Tests.{eqb-true, ne-eqb, le-leb, lt-leb, leb-true}
 use Rattle.counting.proofs.Sums.{count-below}
 use Rattle.paper.specs.declared.Answer.{Answer}
 use Rattle.paper.specs.Upload.{byteAt, actionsOf}
@@ -23,11 +23,13 @@ use Rattle.paper.specs.Batch.{partOf, entryAnswer}
 use Rattle.paper.specs.Lines.{textOf, linesAnswer}
 use Rattle.paper.proofs.Tests.{or-cases, or-right, and-left, and-right, and-both, clash}
 use Rattle.table.specs.Accepted.{Accepted}
+use Rattle.batch.proofs.Independent.{independent}
 use Rattle.demands.specs.ExactlyWhen
 use Rattle.demands.specs.ExactlyWhen.{TableRefused, TablePasses, Tries, Ready, BadImage, ActionRefused, ActionTaken, Ground, ofHeader, ofSpan, ofTable, ofImage, ofAction, ofRoom, ReplayRefused, AllTaken, freshTries, reportTries, listTries, stepTries, replayTries, entryTries}
 use Rattle.demands.specs.Answers.{Call, freshCall, runCall, reportCall, listCall, stepCall, replayCall, entryCall, linesCall, answerOf, mostSteps, Ranges, NotOfAction, Blank, Counts, StepCounts, Answers}
 use Rattle.demands.proofs.Least.{least-lies}
 use Rattle.demands.proofs.ListLength.{listed-most}
+use Rattle.demands.proofs.TextLength.{text-most}
 use Rattle.demands.proofs.Left.{call-leaves}
 use Rattle.demands.proofs.OneAction.{action-given, action-passes, action-leads, action-number}
 use Rattle.demands.proofs.Replaying.{replay-refused, replay-all, replay-either}
@@ -190,14 +192,14 @@ list-most upload image p =
     let most = listed-most t (stateOf t image) nodes in
     omega arith
 
-lines-judged : (batch buffer : List ℕ) → Judged (linesAnswer batch buffer) (length buffer)
+lines-judged : (batch buffer : List ℕ) → Judged (linesAnswer batch buffer) 2688
 unfolding linesAnswer
 lines-judged batch buffer = go (ltb (length buffer) (length (textOf batch))) refl
   where
     nothing : NotOfAction 0 → ⊥
     nothing w = let low = w .0 in omega arith
 
-    go : (b : Bool) → ltb (length buffer) (length (textOf batch)) ≡ b → Judged (linesAnswer batch buffer) (length buffer)
+    go : (b : Bool) → ltb (length buffer) (length (textOf batch)) ≡ b → Judged (linesAnswer batch buffer) 2688
     go true e =
         rw e (
         record {
@@ -220,7 +222,7 @@ lines-judged batch buffer = go (ltb (length buffer) (length (textOf batch))) ref
               record {
                 refusalRange = omega arith;
                 placeRange = omega arith;
-                stepsRange = ltb-false (length buffer) (length (textOf batch)) e;
+                stepsRange = text-most batch;
                 outcomeRange = omega arith;
                 rootRange = inr refl;
                 waitingRange = omega arith;
@@ -307,6 +309,7 @@ step-counts upload image kind x y = record { refused = refused; taken = taken }
 pub answers : Answers
 answers =
     record {
+      independent = independent;
       leaves = call-leaves;
       ranges = λ c. call-judged c .ranges;
       blank = λ c. call-judged c .blank;

@@ -6,6 +6,9 @@ pub mod OneAction
 pub mod Replaying
 pub mod Grounds
 pub mod ExactlyWhen
+pub mod TextLength
 pub mod Left
 pub mod ListLength
 pub mod Answers
+pub mod Holds
+pub mod Calls

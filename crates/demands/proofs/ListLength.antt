@@ -16,13 +16,13 @@ use Rattle.paper.specs.State.{State}
 use Rattle.paper.specs.Actions.{Reading, joins, reading, refusedBy, entry, entriesAt, entriesOf, listed}
 use Rattle.paper.proofs.Readings.{Read, at-node, on-link, not-read, read}
 
-length-joined : (n : ℕ) (f : ℕ → List ℕ) → length (joined n f) ≡ sum n (λ i. length (f i))
+pub length-joined : (n : ℕ) (f : ℕ → List ℕ) → length (joined n f) ≡ sum n (λ i. length (f i))
 unfolding joined sum
 length-joined zero f = refl
 length-joined (suc n) f = let below = length-joined n f in length-append (joined n f) (f n) ∙ omega arith
 
 -- a number over and over, and a multiple of each term
-repeated : (k n : ℕ) → sum n (λ i. k) ≡ n * k
+pub repeated : (k n : ℕ) → sum n (λ i. k) ≡ n * k
 unfolding sum
 repeated k zero = sym (zero-mul k)
 repeated k (suc n) = ap (λ r. r + k) (repeated k n) ∙ sym (suc-mul n k)

@@ -4,7 +4,6 @@ use mathlib.Core.Path.{_≡_, sym, ap, subst, _∙_}
 use mathlib.Core.Logic.{_⊎_, inl, inr}
 use mathlib.Core.List.{List}
 use native.Mathlib.Omega.{arith}
-use borrow.Author.Tests.{eq-eqb, ne-eqb}
 use Rattle.paper.specs.Upload.{actionsOf}
 use Rattle.paper.specs.Table.{tableOf}
 use Rattle.paper.specs.State.{State, fresh}
@@ -12,19 +11,9 @@ use Rattle.paper.specs.Actions.{refusedBy, stateAfter}
 use Rattle.paper.specs.Refusals.{accepted}
 use Rattle.paper.specs.Calls.{actionOf, replayFrom, replayed}
 use Rattle.table.specs.Accepted.{Accepted}
+use Rattle.replay.proofs.Folds.{replay-stops, replay-goes-on}
 use Rattle.demands.specs.ExactlyWhen.{ActionRefused, ActionTaken, kindAt, firstAt, secondAt, Taken, atFirst, andThen, ReplayRefused, AllTaken}
 use Rattle.demands.proofs.OneAction.{action-given, action-passes, action-leads, action-either, action-number}
-
-module _ (upload : List ℕ) (s : State) (i k : ℕ) where
-  -- an action that is refused ends the replay before it
-  replay-stops : (refusedBy (tableOf upload) s (actionOf upload i) ≡ 0 → ⊥) → replayFrom upload s i (suc k) ≡ record { refusal = record { number = refusedBy (tableOf upload) s (actionOf upload i); place = i }; steps = i; state = s }
-  unfolding replayFrom
-  replay-stops h = rw (ne-eqb (refusedBy (tableOf upload) s (actionOf upload i)) 0 h)
-
-  -- one that is taken leads on to the next
-  replay-goes-on : refusedBy (tableOf upload) s (actionOf upload i) ≡ 0 → replayFrom upload s i (suc k) ≡ replayFrom upload (stateAfter (tableOf upload) s (actionOf upload i)) (suc i) k
-  unfolding replayFrom
-  replay-goes-on h = rw (eq-eqb (refusedBy (tableOf upload) s (actionOf upload i)) 0 h)
 
 module _ (upload : List ℕ) (known : Accepted upload) where
   -- what is known of one action of the upload

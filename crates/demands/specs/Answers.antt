@@ -14,6 +14,7 @@ use Rattle.paper.specs.Runner.{runner}
 use Rattle.paper.specs.Calls.{reported, freshAnswer, freshImage, reportAnswer, listOfImage, listAnswer, listBuffer, stepState, stepAnswer, stepImage, runAnswer, runImage, replayAnswer}
 use Rattle.paper.specs.Batch.{entryAnswer}
 use Rattle.paper.specs.Lines.{textOf, linesAnswer, linesBuffer}
+use Rattle.batch.specs.Independent.{Independent}
 use Rattle.demands.specs.ExactlyWhen.{TablePasses, BadImage, ActionRefused, ActionTaken, ReplayRefused, AllTaken}
 
 -- the calls, with all that each is lent and given
@@ -70,7 +71,7 @@ output (replayCall upload) = []
 output (entryCall batch i) = []
 output (linesCall batch buffer) = textOf batch
 
--- the most that steps can be: of the lines, whose steps are bytes, the bytes lent
+-- the most that steps can be: of the lines, whose steps are bytes, 64 lines of 42
 abbrev pub mostSteps : Call → ℕ
 mostSteps (freshCall upload image) = 1024
 mostSteps (runCall upload image) = 1024
@@ -79,7 +80,7 @@ mostSteps (listCall upload image buffer) = 1024
 mostSteps (stepCall upload image kind x y) = 1024
 mostSteps (replayCall upload) = 1024
 mostSteps (entryCall batch i) = 1024
-mostSteps (linesCall batch buffer) = length buffer
+mostSteps (linesCall batch buffer) = 2688
 
 -- what is left of the lent bytes
 pub record Leaves (c : Call) : Type 0 where
@@ -124,6 +125,8 @@ pub record StepCounts (upload image : List ℕ) (kind x y : ℕ) : Type 0 where
   pub taken : TablePasses upload → (BadImage (tableOf upload) image → ⊥) → {next : State} → ActionTaken (tableOf upload) (stateOf (tableOf upload) image) kind x y next → stepAnswer upload image kind x y ≡ reported accepted 1 (tableOf upload) next
 
 pub record Answers : Type 0 where
+  -- the answer for one upload of a batch depends only on its own bytes, once the header is accepted and the span lies inside
+  pub independent : Independent
   pub leaves : (c : Call) → Leaves c
   pub ranges : (c : Call) → Ranges (answerOf c) (mostSteps c)
   pub blank : (c : Call) → NotOfAction (answerOf c .refusal) → Blank (answerOf c)
