@@ -1,3 +1,4 @@
+pub mod Possible
 pub mod More
 pub mod Named
 pub mod Taken

@@ -14,9 +14,14 @@ either-waits true true p = refl
 either-waits true false p = refl
 either-waits false c p = refl
 
-pub moves-on : (t : Table) (s : State) (i : ℕ) (b : Bool) → i < t .links → (carries (s .message i b) || possible t s (resolve i b)) ≡ movesOn t s i b
+pub moves-on : (t : Table) (s : State) (i : ℕ) (b : Bool) {c p : Bool} →
+    i < t .links →
+    c ≡ carries (s .message i b) →
+    p ≡ possible t s (resolve i b) →
+    (c || p) ≡ movesOn t s i b
 unfolding possible
-moves-on t s i b h = rw (lt-ltb i (t .links) h) (either-waits (s .waiting (target t i b)) (carries (s .message i b)) _)
+moves-on t s i b h c p =
+    rw (c, p, lt-ltb i (t .links) h) (either-waits (s .waiting (target t i b)) (carries (s .message i b)) _)
 
 pub moves-at : (t : Table) (s : State) (x : ℕ) {w r : Bool} {k : ℕ} →
     x < t .nodes →

@@ -1,4 +1,4 @@
--- What is asked of one link, of one node and of one action.
+-- What is asked of one link, of one action and of a state.
 use Prim.Native.Nat.{ℕ, _+_}
 use mathlib.Core.Bool.{Bool, true, false, not, _&&_, _||_}
 use mathlib.Core.List.{List}

@@ -51,7 +51,7 @@ pub fn unheard_at(upload: &[u8], image: &[u8], x: usize) -> Unheard
 }
 
 // A node of link i: its first, or its second.
-fn end_node(upload: &[u8], i: usize, second: bool) -> usize
+pub fn end_node(upload: &[u8], i: usize, second: bool) -> usize
     requires { ⌜ Accepted (now upload) × (i < linksOf (now upload)) ⌝ }
     ensures { λ r. ⌜ (r ≡ tableOf (now (upload .entry)) .end i second) × (r < nodesOf (now (upload .entry))) ⌝ }
 {
@@ -256,7 +256,7 @@ pub struct Report {
 }
 
 // Some step at node x is possible.
-pub fn node_moves(upload: &[u8], image: &[u8], x: usize) -> bool
+fn node_moves(upload: &[u8], image: &[u8], x: usize) -> bool
     requires { ⌜ Lent (now upload) (now image) × (x < nodesOf (now upload)) ⌝ }
     ensures { λ r. ⌜ r ≡ movesAt (tableOf (now (upload .entry))) (shown (now (upload .entry)) (now (image .entry))) x ⌝ }
 {
@@ -266,7 +266,7 @@ pub fn node_moves(upload: &[u8], image: &[u8], x: usize) -> bool
 }
 
 // Some step on a direction of link i is possible: the direction carries a message, or both its nodes contend.
-pub fn direction_moves(upload: &[u8], image: &[u8], i: usize, back: bool) -> bool
+fn direction_moves(upload: &[u8], image: &[u8], i: usize, back: bool) -> bool
     requires { ⌜ Lent (now upload) (now image) × (i < linksOf (now upload)) ⌝ }
     ensures { λ r. ⌜ r ≡ movesOn (tableOf (now (upload .entry))) (shown (now (upload .entry)) (now (image .entry))) i back ⌝ }
 {
@@ -314,7 +314,7 @@ fn some_link_moves(upload: &[u8], image: &[u8]) -> bool
 }
 
 // Some step is possible.
-pub fn is_moving(upload: &[u8], image: &[u8]) -> bool
+fn is_moving(upload: &[u8], image: &[u8]) -> bool
     requires { ⌜ Lent (now upload) (now image) ⌝ }
     ensures { λ r. ⌜ r ≡ moving (tableOf (now (upload .entry))) (shown (now (upload .entry)) (now (image .entry))) ⌝ }
 {
@@ -341,7 +341,7 @@ fn root_count(upload: &[u8], image: &[u8]) -> usize
 }
 
 // How many nodes wait.
-pub fn waiting_count(upload: &[u8], image: &[u8]) -> usize
+fn waiting_count(upload: &[u8], image: &[u8]) -> usize
     requires { ⌜ Lent (now upload) (now image) ⌝ }
     ensures { λ r. ⌜ (r ≡ waitingCount (tableOf (now (upload .entry))) (shown (now (upload .entry)) (now (image .entry)))) × (r ≤ 63) ⌝ }
 {

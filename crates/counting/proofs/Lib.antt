@@ -1,3 +1,6 @@
+pub mod Booleans
 pub mod Bits
 pub mod Sums
+pub mod Tests
+pub mod Lists
 pub mod Directions

@@ -21,12 +21,13 @@ use Rattle.paper.specs.Refusals.{Refusal, accepted, Tried, refusal}
 use Rattle.paper.specs.Calls.{refusedWith, reported, hasState, answered, Replayed, replayed, replayBehind, freshAnswer, runAnswer, reportAnswer, listAnswer, listOfImage, stepRefusal, stepAnswer, replayAnswer}
 use Rattle.paper.specs.Batch.{partOf, entryAnswer}
 use Rattle.paper.specs.Lines.{textOf, linesAnswer}
-use Rattle.paper.proofs.Tests.{or-cases, or-right, and-left, and-right, and-both, clash}
+use Rattle.counting.proofs.Booleans.{or-cases, or-right, and-left, and-right, and-both, clash}
 use Rattle.table.specs.Accepted.{Accepted}
 use Rattle.batch.proofs.Independent.{independent}
 use Rattle.demands.specs.ExactlyWhen
 use Rattle.demands.specs.ExactlyWhen.{TableRefused, TablePasses, Tries, Ready, BadImage, ActionRefused, ActionTaken, Ground, ofHeader, ofSpan, ofTable, ofImage, ofAction, ofRoom, ReplayRefused, AllTaken, freshTries, reportTries, listTries, stepTries, replayTries, entryTries}
 use Rattle.demands.specs.Answers.{Call, freshCall, runCall, reportCall, listCall, stepCall, replayCall, entryCall, linesCall, answerOf, mostSteps, Ranges, NotOfAction, Blank, Counts, StepCounts, Answers}
+use Rattle.demands.proofs.Told.{sound-marks}
 use Rattle.demands.proofs.Least.{least-lies}
 use Rattle.demands.proofs.ListLength.{listed-most}
 use Rattle.demands.proofs.TextLength.{text-most}
@@ -66,7 +67,7 @@ bounds c h (ofTable i p) =
     record { numbers = omega arith; places = table-place p; passes = no-state (omega arith) (inl high) }
 bounds c h (ofImage i t p) = record { numbers = omega arith; places = omega arith; passes = λ e. t }
 bounds c h (ofAction r p) =
-    let acts = h .action (r .table) in
+    let acts = h .action r in
     let high = acts .range p .1 in
     record { numbers = omega arith; places = acts .within p; passes = λ e. r .table }
 bounds c h (ofRoom r t p) = record { numbers = omega arith; places = omega arith; passes = λ e. r .table }
@@ -292,7 +293,7 @@ step-counts upload image kind x y = record { refused = refused; taken = taken }
         let range = action-number h in
         let low = range .0 in
         let g = ground-given (stepTries upload image kind x y) (step-trying upload image kind x y) (ofAction (ready p good) (record { only = refl; refused = h })) in
-        let e = action-given t (k .ends) (k .noSelf) (k .noRepeat) kind x y s h in
+        let e = action-given t (k .ends) (k .noSelf) (k .noRepeat) kind x y s (sound-marks t image good) h in
         let n = ne-eqb number 0 (omega arith) in
         (λ j. answered (g j) (cond (eqb (g j .number) 0) 1 0) t (cond (eqb (e j) 0) (stateAfter t s (reading t kind x y)) s))
         ∙ ap (λ b. answered (record { number = number; place = 0 }) (cond b 1 0) t (cond b (stateAfter t s (reading t kind x y)) s)) n
@@ -302,7 +303,7 @@ step-counts upload image kind x y = record { refused = refused; taken = taken }
     taken p good {next} h =
         let k = known upload p in
         let g = ground-given (stepTries upload image kind x y) (step-trying upload image kind x y) (ExactlyWhen.accepted (ready p good) (record { next = next; taken = h }) (λ r. r)) in
-        let e = action-passes t (k .ends) (k .noSelf) (k .noRepeat) kind x y s h in
+        let e = action-passes t (k .ends) (k .noSelf) (k .noRepeat) kind x y s (sound-marks t image good) h in
         let f = action-leads t (k .ends) (k .noSelf) (k .noRepeat) kind x y s h in
         λ j. answered (g j) (cond (eqb (g j .number) 0) 1 0) t (cond (eqb (e j) 0) (f j) s)
 

@@ -18,8 +18,8 @@ use Rattle.paper.specs.Lines.{textOf, linesAnswer}
 use Rattle.table.specs.Accepted.{Accepted}
 use Rattle.table.proofs.Laws.{accepted-laws}
 use Rattle.table.proofs.Tells.{Tells, tells-lt, decided, holds, fails}
-use Rattle.demands.specs.ExactlyWhen.{TablePasses, ActionRefused, ActionTaken, tries, noAction, StepRefused, StepTaken, ReplayRefused, AllTaken, NoRoom, freshTries, reportTries, listTries, stepTries, replayTries, entryTries, LinesGround, written, noRoom, Exactly, Given, ExactlyWhen}
-use Rattle.demands.proofs.Told.{tells-header, tells-span, tells-length, tells-image}
+use Rattle.demands.specs.ExactlyWhen.{TablePasses, BadImage, Ready, ActionRefused, ActionTaken, tries, noAction, StepRefused, StepTaken, ReplayRefused, AllTaken, NoRoom, freshTries, reportTries, listTries, stepTries, replayTries, entryTries, LinesGround, written, noRoom, Exactly, Given, ExactlyWhen}
+use Rattle.demands.proofs.Told.{tells-header, tells-span, tells-length, tells-image, sound-marks}
 use Rattle.demands.proofs.OneAction.{action-given, action-passes, action-either, action-number}
 use Rattle.demands.proofs.Replaying.{replay-refused, replay-all, replay-either}
 use Rattle.demands.proofs.TableGround.{table-accepted}
@@ -34,7 +34,7 @@ no-acts : Acts accepted noAction (Unit {0})
 no-acts = record { refused = λ h. absurd h; range = λ h. absurd h; within = λ h. absurd h; passed = λ h. refl; either = inl tt }
 
 -- a call of a table, which tries no header and no span
-of-table : {upload : List ℕ} {I : Type 0} {A : ℕ → ℕ → Type 0} {taken R : Type 0} {image action room : Refusal} → Told image 12 I → (TablePasses upload → Acts action A taken) → Told room 13 R → Trying (tries upload I A taken R) (trying image action room)
+of-table : {upload : List ℕ} {I : Type 0} {A : ℕ → ℕ → Type 0} {taken R : Type 0} {image action room : Refusal} → Told image 12 I → (Ready (tries upload I A taken R) → Acts action A taken) → Told room 13 R → Trying (tries upload I A taken R) (trying image action room)
 of-table i a r =
     record {
       header = untried 1;
@@ -59,17 +59,18 @@ list-trying upload image buffer =
     of-table (told (not (fits t image && sound t image)) 12 (tells-image t image)) (λ h. no-acts)
     (told (ltb (length buffer) (length (listOfImage upload image))) 13 (tells-lt (length buffer) (length (listOfImage upload image))))
 
-step-acts : (upload image : List ℕ) (kind x y : ℕ) → TablePasses upload → let t = tableOf upload in let s = stateOf t image in Acts (actionRefusal (refusedBy t s (reading t kind x y)) 0) (StepRefused t s kind x y) (StepTaken t s kind x y)
-step-acts upload image kind x y h =
+step-acts : (upload image : List ℕ) (kind x y : ℕ) → TablePasses upload → (BadImage (tableOf upload) image → ⊥) → let t = tableOf upload in let s = stateOf t image in Acts (actionRefusal (refusedBy t s (reading t kind x y)) 0) (StepRefused t s kind x y) (StepTaken t s kind x y)
+step-acts upload image kind x y h good =
     let t = tableOf upload in
     let s = stateOf t image in
     let k = known upload h in
+    let marks = sound-marks t image good in
     record {
-      refused = λ w. ap (λ n. record { number = n; place = cond (eqb n 0) 0 0 }) (action-given t (k .ends) (k .noSelf) (k .noRepeat) kind x y s (w .refused)) ∙ at-first _ _ (w .only);
+      refused = λ w. ap (λ n. record { number = n; place = cond (eqb n 0) 0 0 }) (action-given t (k .ends) (k .noSelf) (k .noRepeat) kind x y s marks (w .refused)) ∙ at-first _ _ (w .only);
       range = λ w. action-number (w .refused);
       within = λ w. let only = w .only in omega arith;
-      passed = λ w. ap (λ n. actionRefusal n 0) (action-passes t (k .ends) (k .noSelf) (k .noRepeat) kind x y s (w .taken));
-      either = which t s (action-either t (k .ends) (k .noSelf) (k .noRepeat) kind x y s);
+      passed = λ w. ap (λ n. actionRefusal n 0) (action-passes t (k .ends) (k .noSelf) (k .noRepeat) kind x y s marks (w .taken));
+      either = which t s (action-either t (k .ends) (k .noSelf) (k .noRepeat) kind x y s marks);
     }
   where
     at-first : (number place : ℕ) → place ≡ 0 → actionRefusal number 0 ≡ record { number = number; place = place }
@@ -86,7 +87,7 @@ step-acts upload image kind x y h =
 pub step-trying : (upload image : List ℕ) (kind x y : ℕ) → let t = tableOf upload in Trying (stepTries upload image kind x y) (trying (imageRefusal t image) (actionRefusal (refusedBy t (stateOf t image) (reading t kind x y)) 0) accepted)
 step-trying upload image kind x y =
     let t = tableOf upload in
-    of-table (told (not (fits t image && sound t image)) 12 (tells-image t image)) (step-acts upload image kind x y) (untried 13)
+    of-table (told (not (fits t image && sound t image)) 12 (tells-image t image)) (λ r. step-acts upload image kind x y (r .table) (r .image)) (untried 13)
 
 replay-acts : (upload : List ℕ) → TablePasses upload → Acts (replayed upload .refusal) (ReplayRefused upload) (AllTaken upload)
 replay-acts upload h =
@@ -100,7 +101,7 @@ replay-acts upload h =
     }
 
 pub replay-trying : (upload : List ℕ) → Trying (replayTries upload) (trying accepted (replayed upload .refusal) accepted)
-replay-trying upload = of-table (untried 12) (replay-acts upload) (untried 13)
+replay-trying upload = of-table (untried 12) (λ r. replay-acts upload (r .table)) (untried 13)
 
 pub entry-trying : (batch : List ℕ) (i : ℕ) → Trying (entryTries batch i) (record { header = given (headerWrong batch) 1 0; span = given (spanOutside batch i) 2 0; image = accepted; action = replayed (partOf batch i) .refusal; room = accepted })
 entry-trying batch i =
@@ -108,7 +109,7 @@ entry-trying batch i =
       header = told (headerWrong batch) 1 (tells-header batch);
       span = told (spanOutside batch i) 2 (tells-span batch i);
       image = untried 12;
-      action = replay-acts (partOf batch i);
+      action = λ r. replay-acts (partOf batch i) (r .table);
       room = untried 13;
     }
 

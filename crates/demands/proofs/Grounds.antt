@@ -62,7 +62,7 @@ pub record Trying (c : Tries) (tried : Tried) : Type 0 where
   pub header : Told (tried .header) 1 (c .header)
   pub span : Told (tried .span) 2 (c .span)
   pub image : Told (tried .image) 12 (c .image)
-  pub action : TablePasses (c .upload) → Acts (tried .action) (c .action) (c .taken)
+  pub action : Ready c → Acts (tried .action) (c .action) (c .taken)
   pub room : Told (tried .room) 13 (c .room)
 
 module _ (c : Tries) {tried : Tried} (h : Trying c tried) where
@@ -78,7 +78,7 @@ module _ (c : Tries) {tried : Tried} (h : Trying c tried) where
   behind-image r = behind-table (r .inside) (r .table) ∙ rw (passes (h .image) (r .image))
 
   behind-actions : Ready c → c .taken → refusal (c .upload) tried ≡ first (tried .room ∷ [])
-  behind-actions r t = behind-image r ∙ rw (h .action (r .table) .passed t)
+  behind-actions r t = behind-image r ∙ rw (h .action r .passed t)
 
   pub ground-given : {number place : ℕ} → Ground c number place → refusal (c .upload) tried ≡ record { number = number; place = place }
   ground-given (ofHeader p) =
@@ -93,7 +93,7 @@ module _ (c : Tries) {tried : Tried} (h : Trying c tried) where
       ∙ e
   ground-given (ofImage i t p) = behind-table i t ∙ rw (stands (h .image) p)
   ground-given (ofAction r p) =
-      let acts = h .action (r .table) in
+      let acts = h .action r in
       let e = acts .refused p in
       let low = acts .range p .0 in
       behind-image r ∙ first-stop (tried .action) (tried .room ∷ []) (some-number (omega arith) e) ∙ e
@@ -116,7 +116,7 @@ module _ (c : Tries) {tried : Tried} (h : Trying c tried) where
   some-image : Inside c → TablePasses (c .upload) → Dec (c .image) → Some
   unfolding Some
   some-image i t (yes p) = (12, 0, ofImage i t p)
-  some-image i t (no p) = some-action (record { inside = i; table = t; image = p }) (h .action t .either)
+  some-image i t (no p) = let ready : Ready c = record { inside = i; table = t; image = p } in some-action ready (h .action ready .either)
 
   some-table : Inside c → TablePasses (c .upload) ⊎ ((number : ℕ) × (place : ℕ) × TableRefused (c .upload) number place) → Some
   unfolding Some

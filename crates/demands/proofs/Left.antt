@@ -35,7 +35,7 @@ had c h (ofHeader p) e = absurd (omega arith)
 had c h (ofSpan n p) e = absurd (omega arith)
 had c h (ofTable i p) e = let low = table-number p .0 in absurd (omega arith)
 had c h (ofImage i t p) e = absurd (omega arith)
-had c h (ofAction r p) e = let low = h .action (r .table) .range p .0 in absurd (omega arith)
+had c h (ofAction r p) e = let low = h .action r .range p .0 in absurd (omega arith)
 had c h (ofRoom r t p) e = absurd (omega arith)
 had c h (ExactlyWhen.accepted r t p) e = record { ready = r; taken = t; room = p }
 

@@ -11,10 +11,13 @@ use Rattle.paper.specs.Table.{Table, source, target, EndsBelow, NoSelfLink}
 use Rattle.paper.specs.State.{State}
 use Rattle.paper.specs.Steps.{Step, childrenKnown, addChild, acknowledge, resolve, becomeRoot, possible}
 use Rattle.paper.specs.Actions.{Reading, names, unread, joins, linkBetween, directionFrom, nodeStep, linkStep, readNode, readLink, ofNode, ofLink, reading, refusedBy, stateAfter}
-use Rattle.paper.specs.Meanings.{NoRepeat}
-use Rattle.paper.proofs.Tests.{and-both, and-left, and-right, or-cases, or-left, or-right, either, least-none}
+use Rattle.paper.specs.Meanings.{NoRepeat, SoundMarks}
+use Rattle.counting.proofs.Booleans.{and-both, and-left, and-right, or-cases, or-left, or-right, either, clash}
+use Rattle.counting.proofs.Tests.{some-none, least-none}
 use Rattle.paper.proofs.Changes
 use Rattle.paper.proofs.Readings.{Read, at-node, on-link, not-read, read, read-once, read-step}
+use Rattle.replay.specs.Promises.{Possible}
+use Rattle.replay.proofs.Promises.{possible-plainly}
 use Rattle.demands.specs.ExactlyWhen.{Unreadable, kindUnder, kindOver, noFirst, noSecond, secondNamed, NoLink, InTable, Names, ActionRefused, unreadable, noLink, notPossible, ActionTaken}
 use Rattle.demands.proofs.Least.{least-below}
 
@@ -130,7 +133,7 @@ reads-ten t kind x y h =
     parted i l = ⊎-elim (λ e. let (b, p, q) = joins-either t x y i e in absurd (h .apart i b l p q)) (λ e. e) (either (joins t x y i))
 
     nowhere : linkBetween t x y ≡ t .links
-    nowhere = least-none (t .links) (joins t x y) (t .links) parted
+    nowhere = least-none (t .links) (joins t x y) (t .links) (some-none (t .links) (joins t x y) parted)
 
 -- a step that is read is one of the table's
 abbrev Within : Table → Reading → Type 0
@@ -179,27 +182,32 @@ module _ (t : Table) (ends : EndsBelow t) (loops : NoSelfLink t) (repeats : NoRe
         secondSame = bytes .2;
       }
 
-  module _ (s : State) where
+  -- an action that is taken leads to the state behind it
+  pub action-leads : (s : State) {next : State} → ActionTaken t s kind x y next → stateAfter t s (reading t kind x y) ≡ next
+  action-leads s h = ap (stateAfter t s) (reads-step (h .step) (h .named)) ∙ sym (h .leads)
+
+  module _ (s : State) (marks : SoundMarks t s) where
+    -- a step that isn't possible, as tested
+    fails : (step : Step) → (Possible t s step → ⊥) → possible t s step ≡ false
+    fails step h = ⊎-elim (λ e. absurd (h (possible-plainly t s marks step .0 e))) (λ e. e) (either (possible t s step))
+
     -- a ground gives its number
     pub action-given : {number : ℕ} → ActionRefused t s kind x y number → refusedBy t s (reading t kind x y) ≡ number
     action-given (unreadable h) = ap (refusedBy t s) (reads-nine t kind x y h)
     action-given (noLink h) = ap (refusedBy t s) (reads-ten t kind x y h)
-    action-given (notPossible step h e) = ap (refusedBy t s) (reads-step step h) ∙ ap (λ b. cond b 0 11) e
+    action-given (notPossible step h e) = ap (refusedBy t s) (reads-step step h) ∙ ap (λ b. cond b 0 11) (fails step e)
 
-    -- an action that is taken is refused by none, and leads to the state behind it
+    -- an action that is taken is refused by none
     pub action-passes : {next : State} → ActionTaken t s kind x y next → refusedBy t s (reading t kind x y) ≡ 0
-    action-passes h = ap (refusedBy t s) (reads-step (h .step) (h .named)) ∙ ap (λ b. cond b 0 11) (h .can)
-
-    pub action-leads : {next : State} → ActionTaken t s kind x y next → stateAfter t s (reading t kind x y) ≡ next
-    action-leads h = ap (stateAfter t s) (reads-step (h .step) (h .named)) ∙ sym (h .leads)
+    action-passes h = ap (refusedBy t s) (reads-step (h .step) (h .named)) ∙ ap (λ b. cond b 0 11) (possible-plainly t s marks (h .step) .1 (h .can))
 
     -- the action is taken, or there is a ground
     pub action-either : ActionTaken t s kind x y (stateAfter t s (reading t kind x y)) ⊎ ((number : ℕ) × ActionRefused t s kind x y number)
     action-either = go (reading t kind x y) refl (cause t kind x y)
       where
         can : (step : Step) → reading t kind x y ≡ names step → (possible t s step ≡ true) ⊎ (possible t s step ≡ false) → ActionTaken t s kind x y (stateAfter t s (reading t kind x y)) ⊎ ((number : ℕ) × ActionRefused t s kind x y number)
-        can step e (inl p) = inl (record { step = step; named = step-named step e; can = p; leads = ap (stateAfter t s) e })
-        can step e (inr p) = inr (11, notPossible step (step-named step e) p)
+        can step e (inl p) = inl (record { step = step; named = step-named step e; can = possible-plainly t s marks step .0 p; leads = ap (stateAfter t s) e })
+        can step e (inr p) = inr (11, notPossible step (step-named step e) (λ q. clash (possible-plainly t s marks step .1 q) p))
 
         go : (r : Reading) → reading t kind x y ≡ r → Cause t kind x y r → ActionTaken t s kind x y (stateAfter t s (reading t kind x y)) ⊎ ((number : ℕ) × ActionRefused t s kind x y number)
         go r e (named step) = can step e (either (possible t s step))

@@ -1,6 +1,6 @@
 -- The actions of a replay in turn: the first that is refused, or all taken.
 use Prim.Native.Nat.{ℕ, zero, suc, _+_, _-_}
-use mathlib.Core.Path.{_≡_, sym, ap, subst, _∙_}
+use mathlib.Core.Path.{subst⁻¹, _≡_, sym, ap, subst, _∙_}
 use mathlib.Core.Logic.{_⊎_, inl, inr}
 use mathlib.Core.List.{List}
 use native.Mathlib.Omega.{arith}
@@ -10,15 +10,23 @@ use Rattle.paper.specs.State.{State, fresh}
 use Rattle.paper.specs.Actions.{refusedBy, stateAfter}
 use Rattle.paper.specs.Refusals.{accepted}
 use Rattle.paper.specs.Calls.{actionOf, replayFrom, replayed}
+use Rattle.paper.specs.Meanings.{SoundMarks}
+use Rattle.paper.proofs.Images.{sound-fresh, sound-kept}
 use Rattle.table.specs.Accepted.{Accepted}
 use Rattle.replay.proofs.Folds.{replay-stops, replay-goes-on}
 use Rattle.demands.specs.ExactlyWhen.{ActionRefused, ActionTaken, kindAt, firstAt, secondAt, Taken, atFirst, andThen, ReplayRefused, AllTaken}
 use Rattle.demands.proofs.OneAction.{action-given, action-passes, action-leads, action-either, action-number}
 
 module _ (upload : List ℕ) (known : Accepted upload) where
+  -- the states that actions lead to have sound marks
+  taken-sound : {i : ℕ} {s : State} → Taken upload i s → SoundMarks (tableOf upload) s
+  taken-sound atFirst = sound-fresh (tableOf upload)
+  taken-sound (andThen {i} {s} {next} before h) =
+      subst⁻¹ (SoundMarks (tableOf upload)) (h .leads) (sound-kept (tableOf upload) s (h .step) (taken-sound before))
+
   -- what is known of one action of the upload
-  given-at : (s : State) (i : ℕ) {number : ℕ} → ActionRefused (tableOf upload) s (kindAt upload i) (firstAt upload i) (secondAt upload i) number → refusedBy (tableOf upload) s (actionOf upload i) ≡ number
-  given-at s i = action-given (tableOf upload) (known .ends) (known .noSelf) (known .noRepeat) (kindAt upload i) (firstAt upload i) (secondAt upload i) s
+  given-at : (s : State) (i : ℕ) {number : ℕ} → SoundMarks (tableOf upload) s → ActionRefused (tableOf upload) s (kindAt upload i) (firstAt upload i) (secondAt upload i) number → refusedBy (tableOf upload) s (actionOf upload i) ≡ number
+  given-at s i marks = action-given (tableOf upload) (known .ends) (known .noSelf) (known .noRepeat) (kindAt upload i) (firstAt upload i) (secondAt upload i) s marks
 
   -- the replay comes to where the actions taken have led
   reaches : {i : ℕ} {s : State} → Taken upload i s → (k total : ℕ) → total ≡ i + k → replayFrom upload (fresh (tableOf upload)) 0 total ≡ replayFrom upload s i k
@@ -26,14 +34,14 @@ module _ (upload : List ℕ) (known : Accepted upload) where
   reaches (andThen {i} {s} {next} before h) k total e =
       let t = tableOf upload in
       reaches before (suc k) total (omega arith)
-      ∙ replay-goes-on upload s i k (action-passes t (known .ends) (known .noSelf) (known .noRepeat) (kindAt upload i) (firstAt upload i) (secondAt upload i) s h)
+      ∙ replay-goes-on upload s i k (action-passes t (known .ends) (known .noSelf) (known .noRepeat) (kindAt upload i) (firstAt upload i) (secondAt upload i) s (taken-sound before) h)
       ∙ ap (λ (r : State). replayFrom upload r (suc i) k) (action-leads t (known .ends) (known .noSelf) (known .noRepeat) (kindAt upload i) (firstAt upload i) (secondAt upload i) s h)
 
   -- at a refused action the replay stops, with as many steps as actions taken and the state before it
   pub replay-refused : {number i : ℕ} (h : ReplayRefused upload number i) → replayed upload ≡ record { refusal = record { number = number; place = i }; steps = i; state = h .before }
   unfolding replayed
   replay-refused {number} {i} h =
-      let g = given-at (h .before) i (h .refused) in
+      let g = given-at (h .before) i (taken-sound (h .earlier)) (h .refused) in
       let there = h .there in
       let range = action-number (h .refused) in
       reaches (h .earlier) (suc (actionsOf upload - suc i)) (actionsOf upload) (omega arith)
@@ -50,7 +58,7 @@ module _ (upload : List ℕ) (known : Accepted upload) where
   search-from i (suc k) s before e =
       let t = tableOf upload in
       go
-      (action-either t (known .ends) (known .noSelf) (known .noRepeat) (kindAt upload i) (firstAt upload i) (secondAt upload i) s)
+      (action-either t (known .ends) (known .noSelf) (known .noRepeat) (kindAt upload i) (firstAt upload i) (secondAt upload i) s (taken-sound before))
       (λ next h. search-from (suc i) k next (andThen before h) (omega arith))
     where
       go : ActionTaken (tableOf upload) s (kindAt upload i) (firstAt upload i) (secondAt upload i) (stateAfter (tableOf upload) s (actionOf upload i)) ⊎ ((number : ℕ) × ActionRefused (tableOf upload) s (kindAt upload i) (firstAt upload i) (secondAt upload i) number) → ((next : State) → ActionTaken (tableOf upload) s (kindAt upload i) (firstAt upload i) (secondAt upload i) next → AllTaken upload ⊎ ((number : ℕ) × (place : ℕ) × ReplayRefused upload number place)) → AllTaken upload ⊎ ((number : ℕ) × (place : ℕ) × ReplayRefused upload number place)

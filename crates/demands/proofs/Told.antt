@@ -14,6 +14,7 @@ use Rattle.paper.specs.Table.{Table, source}
 use Rattle.paper.specs.State.{Message, none, request, acknowledgement}
 use Rattle.paper.specs.Steps.{carries}
 use Rattle.paper.specs.Image.{directionAt, stateOf, soundDirection, sound, fits, imageLength}
+use Rattle.paper.specs.Meanings.{SoundMarks}
 use Rattle.paper.specs.Batch.{countOf, headerEnd, offsetOf, lengthOf, headerWrong, spanOutside}
 use Rattle.table.proofs.Tells.{Tells, tells-same, tells-lt, tells-le, tells-eq, tells-not, tells-and, tells-or}
 use Rattle.demands.specs.ExactlyWhen.{HeaderWrong, under, over, noEntry, manyEntries, entriesBeyond, SpanOutside, notThere, early, late, WrongImageLength, BadImage, notTheLength, nodeByteOver, directionByteOver, sendsWaiting}
@@ -161,3 +162,13 @@ module _ (t : Table) (image : List ℕ) where
       back (nodeByteOver x l h) = inr (inl (x, l, h))
       back (directionByteOver i b l h) = inr (inr (i, l, side i b (inl h)))
       back (sendsWaiting i b l w m) = inr (inr (i, l, side i b (inr (w, m))))
+
+-- no message, where it isn't so that there is one
+is-none : (m : Message) → ((m ≡ none → ⊥) → ⊥) → m ≡ none
+is-none none h = refl
+is-none request h = absurd (h (message-kind request .yields refl))
+is-none acknowledgement h = absurd (h (message-kind acknowledgement .yields refl))
+
+-- an image that isn't bad shows sound marks
+pub sound-marks : (t : Table) (image : List ℕ) → (BadImage t image → ⊥) → SoundMarks t (stateOf t image)
+sound-marks t image good i b l waits = is-none (stateOf t image .message i b) (λ some. good (sendsWaiting i b l waits some))

@@ -1,6 +1,6 @@
 -- The table of refusals of document 01, numbers 0 to 13 for every call, in plain terms: what each number is given for, at which place, behind which checks.
 use Prim.Native.Nat.{ℕ, suc, _+_, _≤_, _<_}
-use mathlib.Core.Bool.{Bool, true, false}
+use mathlib.Core.Bool.{Bool, true}
 use mathlib.Core.Path.{_≡_}
 use mathlib.Core.Logic.{_⊎_, _↔_}
 use mathlib.Core.List.{List}
@@ -9,12 +9,13 @@ use Rattle.paper.specs.declared.Answer.{Answer}
 use Rattle.paper.specs.Upload.{byteAt, actionsOf, actionAt}
 use Rattle.paper.specs.Table.{Table, tableOf, source, target, OnePiece}
 use Rattle.paper.specs.State.{none, State, fresh}
-use Rattle.paper.specs.Steps.{Step, childrenKnown, addChild, acknowledge, resolve, becomeRoot, possible, effect}
+use Rattle.paper.specs.Steps.{Step, childrenKnown, addChild, acknowledge, resolve, becomeRoot, effect}
 use Rattle.paper.specs.Image.{imageLength, directionAt, stateOf}
 use Rattle.paper.specs.Meanings.{kindOf, firstOf, secondOf}
 use Rattle.paper.specs.Calls.{freshAnswer, reportAnswer, listOfImage, listAnswer, stepAnswer, runAnswer, replayAnswer}
 use Rattle.paper.specs.Batch.{countOf, headerEnd, offsetOf, lengthOf, partOf, entryAnswer}
 use Rattle.paper.specs.Lines.{textOf, linesAnswer}
+use Rattle.replay.specs.Promises.{Possible}
 use Rattle.table.specs.ExactlyWhen.{OutOfRange, WrongLength, NamesNoNode, JoinsItself, Repeats, Reaches, AllLinksPass}
 
 -- the answer is this number at this place
@@ -95,13 +96,13 @@ pub record Names (t : Table) (kind x y : ℕ) (step : Step) : Type 0 where
 pub data ActionRefused (t : Table) (s : State) (kind x y : ℕ) : ℕ → Type 0 where
   unreadable : Unreadable t kind x y → ActionRefused t s kind x y 9
   noLink : NoLink t kind x y → ActionRefused t s kind x y 10
-  notPossible : (step : Step) → Names t kind x y step → possible t s step ≡ false → ActionRefused t s kind x y 11
+  notPossible : (step : Step) → Names t kind x y step → (Possible t s step → ⊥) → ActionRefused t s kind x y 11
 
 -- the action names a step that is possible, and the step leads to the next state
 pub record ActionTaken (t : Table) (s : State) (kind x y : ℕ) (next : State) : Type 0 where
   pub step : Step
   pub named : Names t kind x y step
-  pub can : possible t s step ≡ true
+  pub can : Possible t s step
   pub leads : next ≡ effect t s step
 
 -- the three bytes of action i of an upload

@@ -1,9 +1,9 @@
 -- That a function's contract has an answer for every input.
 --     ps, r      the kinds of the parameters and of the result: the function's generated module Kinds
 --     Pre        what the requires says of the arguments; Learnt: what the ensures says of the arguments, the result and the parameters at exit, as in Determined
---     κs, a      the lifetimes and the arguments: any at all that meet the requires, so all where there is none
--- There are a result z and last contents w, a place for each parameter in turn, that meet the ensures. With Determined they are the only ones.
--- That the function returns, and that what it returns meets the ensures, is its own proof; this says in addition that the ensures asks for nothing impossible, whatever is lent.
+--     κs, a      the lifetimes and the arguments: any that are values of their types (GoodsP: a number is below 2 to the power of its bits) and meet the requires, so all where there is none
+-- There are a result z and last contents w, a place for each parameter in turn, that meet the ensures; z is a value of its type (Ok), and what is left in a lent slice is as long as what was lent (fitsOf).
+-- With Determined they are the only ones. That the function returns them is its own proof.
 -- The theorem of a function `f` is `f-answered : Answered f.Kinds.ps f.Kinds.r f.Reads.Pre f.Reads.Learnt`.
 use mathlib.Core.List.{List}
 use Prim.Native.Nat.{ℕ}

@@ -4,10 +4,10 @@ use mathlib.Core.Bool.{Bool, true, false, cond, _&&_, Bool·beq}
 use mathlib.Core.Path.{_≡_, refl, ap}
 use lib.Dec.{eqb, ltb}
 use borrow.Author.Tests.{eqb-true, eqb-false, ne-eqb, ltb-true}
+use Rattle.counting.proofs.Booleans.{and-left}
 use Rattle.paper.specs.Table.{Table}
 use Rattle.paper.specs.State.{State}
 use Rattle.paper.specs.Steps.{Step, childrenKnown, addChild, acknowledge, resolve, becomeRoot, possible, at, atDirection}
-use Rattle.paper.proofs.Tests.{and-left}
 
 -- what holds of the new value at x and of the old ones elsewhere holds of the changed function
 pub at-elim {ℓ} : {A : Type ℓ} (P : A → Type 0) (f : ℕ → A) (x : ℕ) (a : A) (j : ℕ) → (j ≡ x → P a) → ((j ≡ x → ⊥) → P (f j)) → P (at f x a j)

@@ -5,41 +5,23 @@ use mathlib.Core.Path.{_≡_, refl, sym, ap, subst, _∙_, fun-ext}
 use mathlib.Core.Logic.{_⊎_, inl, inr}
 use mathlib.Core.List.{List, [], _∷_, _++_}
 use lib.Dec.{eqb, ltb}
-use lib.ListN.{length, getD, length-append, List·getD-append}
-use lib.Seq.{getD-append-add, ext-getD}
+use lib.ListN.{length, getD, length-append}
+use lib.Seq.{ext-getD}
 use borrow.Author.Tests.{eqb-true, ltb-true, ltb-false, lt-ltb, le-ltb}
 use native.Mathlib.Omega.{arith}
 use native.Mathlib.Decide.{ℕ-discrete, decLt}
 use Rattle.counting.specs.Count.{bit, all, listOf, joined}
+use Rattle.counting.proofs.Bits.{bit-most}
+use Rattle.counting.proofs.Lists.{getD-below, getD-from, length-listOf, getD-listOf}
+use Rattle.counting.proofs.Booleans.{and-left, and-right, and-both}
+use Rattle.counting.proofs.Tests.{all-true, all-holds}
 use Rattle.paper.specs.Upload.{byteAt}
 use Rattle.paper.specs.Table.{Table, source, target, EndsBelow}
 use Rattle.paper.specs.State.{Message, none, request, acknowledgement, State, fresh}
 use Rattle.paper.specs.Steps.{Step, childrenKnown, addChild, acknowledge, resolve, becomeRoot, possible, effect, at, sends, carries}
 use Rattle.paper.specs.Image.{nodeByte, messageNumber, directionByte, imageOf, imageLength, directionAt, odd, messageOf, stateOf, soundDirection, sound, fits}
 use Rattle.paper.specs.Meanings.{Shown, SoundMarks}
-use Rattle.paper.proofs.Tests.{and-left, and-right, and-both, all-true, all-holds}
 use Rattle.paper.proofs.Changes.{at-elim, at-away, at-direction-elim, at-direction-away, possible-in-table}
-
-pub length-listOf {ℓ} : {A : Type ℓ} (n : ℕ) (f : ℕ → A) → length (listOf n f) ≡ n
-unfolding listOf
-length-listOf zero f = refl
-length-listOf (suc n) f = let h = length-listOf n f in length-append (listOf n f) (f n ∷ []) ∙ omega arith
-
--- two lists one behind the other, read in the first of n and in the second
-getD-below {ℓ} : {A : Type ℓ} (l r : List A) (d : A) (n j : ℕ) → length l ≡ n → j < n → getD (l ++ r) j d ≡ getD l j d
-getD-below l r d n j e h = List·getD-append l r d j (rw e h)
-
-getD-from {ℓ} : {A : Type ℓ} (l r : List A) (d : A) (n j k : ℕ) → length l ≡ n → k ≡ n + j → getD (l ++ r) k d ≡ getD r j d
-getD-from l r d n j k e h = rw (h, ← e) (getD-append-add l r j d)
-
-pub getD-listOf {ℓ} : {A : Type ℓ} (n : ℕ) (f : ℕ → A) (d : A) (i : ℕ) → i < n → getD (listOf n f) i d ≡ f i
-unfolding listOf
-getD-listOf zero f d i h = absurd (omega arith)
-getD-listOf (suc n) f d i h = go (ℕ-discrete i n) (getD-listOf n f d i)
-  where
-    go : Dec (i ≡ n) → (i < n → getD (listOf n f) i d ≡ f i) → getD (listOf n f ++ (f n ∷ [])) i d ≡ f i
-    go (yes q) below = getD-from (listOf n f) (f n ∷ []) d n 0 i (length-listOf n f) (omega arith) ∙ ap f (sym q)
-    go (no q) below = getD-below (listOf n f) (f n ∷ []) d n i (length-listOf n f) (omega arith) ∙ below (omega arith)
 
 -- two bytes for each link, the second behind the first
 pairs : (ℕ → Bool → ℕ) → ℕ → List ℕ
@@ -290,20 +272,16 @@ pub sound-marks : (t : Table) (image : List ℕ) → sound t image ≡ true → 
 sound-marks t image e i b h =
     quiet (stateOf t image .waiting (source t i b)) (stateOf t image .message i b) (and-right (ltb (byteAt image (directionAt t i b)) 6) _ (sound-at t image e i b h))
 
-bit-range : (b : Bool) → bit b ≤ 1
-bit-range true = omega arith
-bit-range false = omega arith
-
 message-range : (m : Message) → messageNumber m ≤ 2
 message-range none = omega arith
 message-range request = omega arith
 message-range acknowledgement = omega arith
 
 pub node-range : (s : State) (x : ℕ) → nodeByte s x < 8
-node-range s x = omega (arith, bit-range (s .waiting x), bit-range (s .contending x), bit-range (s .root x))
+node-range s x = omega (arith, bit-most (s .waiting x), bit-most (s .contending x), bit-most (s .root x))
 
 pub direction-range : (s : State) (i : ℕ) (b : Bool) → directionByte s i b < 6
-direction-range s i b = omega (arith, bit-range (s .child i b), message-range (s .message i b))
+direction-range s i b = omega (arith, bit-most (s .child i b), message-range (s .message i b))
 
 pub sound-image : (t : Table) (s : State) → SoundMarks t s → Shown t s → sound t (imageOf t s) ≡ true
 unfolding sound

@@ -4,12 +4,12 @@ use mathlib.Core.Bool.{Bool, true, false, cond}
 use mathlib.Core.Path.{_≡_, refl}
 use mathlib.Core.List.{List, [], _∷_}
 use native.Mathlib.Omega.{arith}
+use Rattle.counting.proofs.Booleans.{and-left, and-right}
 use Rattle.paper.specs.Table.{Table, EndsBelow}
 use Rattle.paper.specs.State.{State, fresh}
 use Rattle.paper.specs.Steps.{Step, possible, effect, after, taken, Run}
 use Rattle.paper.specs.Actions.{Reading, names, unread, refusedBy, stateAfter}
 use Rattle.paper.specs.Meanings.{Shown, SoundMarks}
-use Rattle.paper.proofs.Tests.{and-left, and-right}
 use Rattle.paper.proofs.Images.{shown-fresh, shown-effect, sound-fresh, sound-kept}
 
 -- an action that names a step and can be taken: the step is possible

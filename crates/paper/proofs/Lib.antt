@@ -4,7 +4,6 @@ pub mod OnePiece
 pub mod Changes
 pub mod Images
 pub mod Kept
-pub mod Passing
 pub mod Published
 pub mod Moving
 pub mod Readings

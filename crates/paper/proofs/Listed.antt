@@ -9,13 +9,13 @@ use borrow.Author.Tests.{eqb-true, eq-eqb}
 use native.Mathlib.Omega.{arith}
 use native.Mathlib.Decide.{ℕ-discrete}
 use Rattle.counting.specs.Count.{joined}
+use Rattle.counting.proofs.Booleans.{either, clash}
 use Rattle.paper.specs.Table.{Table, EndsBelow, NoSelfLink}
 use Rattle.paper.specs.State.{State}
 use Rattle.paper.specs.Steps.{Step, possible}
 use Rattle.paper.specs.Report.{moving}
 use Rattle.paper.specs.Actions.{Reading, names, directionFrom, nodeStep, linkStep, reading, refusedBy, entry, entriesAt, entriesOf, listed}
 use Rattle.paper.specs.Meanings.{NoRepeat, kindOf, firstOf, secondOf, Stands, three, Ascending, ListsSteps}
-use Rattle.paper.proofs.Tests.{either, clash}
 use Rattle.paper.proofs.Changes.{possible-in-table}
 use Rattle.paper.proofs.Kept.{possible-taken}
 use Rattle.paper.proofs.Moving.{moves, moving-step}

@@ -4,11 +4,12 @@ use mathlib.Core.Bool.{Bool, true, false, _||_}
 use mathlib.Core.Path.{_≡_}
 use mathlib.Core.Logic.{⊎-elim, _↔_}
 use Rattle.counting.specs.Count.{some}
+use Rattle.counting.proofs.Booleans.{or-left, or-right, or-cases, either, clash}
+use Rattle.counting.proofs.Tests.{some-true, some-holds}
 use Rattle.paper.specs.Table.{Table}
 use Rattle.paper.specs.State.{State}
 use Rattle.paper.specs.Steps.{Step, childrenKnown, addChild, acknowledge, resolve, becomeRoot, possible, Still}
 use Rattle.paper.specs.Report.{movesOn, movesAt, moving}
-use Rattle.paper.proofs.Tests.{or-left, or-right, or-cases, either, clash, some-true, some-holds}
 use Rattle.paper.proofs.Changes.{possible-in-table}
 
 -- some step on link i is possible

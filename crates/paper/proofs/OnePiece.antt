@@ -1,13 +1,14 @@
 -- One piece: the labels worked out from the links say exactly which nodes a path of links joins.
 use Prim.Native.Nat.{ℕ, zero, suc, _<_, _≤_}
-use mathlib.Core.Bool.{Bool, true, false, not, cond, true≢false}
+use mathlib.Core.Bool.{Bool, true, false, not, cond, true≢false, Bool·not-not}
 use mathlib.Core.Path.{_≡_, refl, sym, ap, subst, _∙_}
 use lib.Dec.{eqb}
 use borrow.Author.Tests.{eqb-true, eq-eqb}
 use native.Mathlib.Omega.{arith}
 use native.Mathlib.Decide.{ℕ-discrete}
+use Rattle.counting.proofs.Tests.{all-true, all-holds}
 use Rattle.paper.specs.Table.{Table, Joined, here, along, OnePiece, labels, onePiece}
-use Rattle.paper.proofs.Tests.{not-not, all-true, all-holds}
+use Rattle.paper.specs.Meanings.{LeftByLink, Cut}
 
 pub joined-trans : {t : Table} {x y z : ℕ} → Joined t x y → Joined t y z → Joined t x z
 joined-trans p here = p
@@ -15,7 +16,7 @@ joined-trans p (along q i b h s e) = along (joined-trans p q) i b h s e
 
 pub joined-sym : {t : Table} {x y : ℕ} → Joined t x y → Joined t y x
 joined-sym here = here
-joined-sym {t} (along p i b h s e) = joined-trans (along here i (not b) h e (ap (t .end i) (not-not b) ∙ s)) (joined-sym p)
+joined-sym {t} (along p i b h s e) = joined-trans (along here i (not b) h e (ap (t .end i) (Bool·not-not b) ∙ s)) (joined-sym p)
 
 joined-to : {t : Table} {x y z : ℕ} → y ≡ z → Joined t x y → Joined t x z
 joined-to {t} {x} e p = subst (Joined t x) e p
@@ -80,10 +81,6 @@ unfolding onePiece
 one-piece-back t one =
     all-holds (t .nodes) (λ x. eqb (labels t (t .links) x) (labels t (t .links) 0)) (λ x h. eq-eqb _ _ (sym (label-joined t (one x h))))
 
--- some link goes from a node of the set S to a node outside it
-abbrev pub LeftByLink : Table → (ℕ → Bool) → Type 0
-LeftByLink t S = (i : ℕ) × (b : Bool) × (i < t .links) × (S (t .end i b) ≡ true) × (S (t .end i (not b)) ≡ false)
-
 -- a set of nodes that holds one end of a path and not the other is left by a link of the path
 cut-of-path : (t : Table) (S : ℕ → Bool) {x y : ℕ} → Joined t x y → S x ≡ true → S y ≡ false → LeftByLink t S
 cut-of-path t S here inside outside = absurd (true≢false (sym inside ∙ outside))
@@ -93,5 +90,5 @@ cut-of-path t S {x} (along {y} p i b h s e) inside outside = go (S y) refl (cut-
     go true q below = (i, b, h, ap S s ∙ q, ap S e ∙ outside)
     go false q below = below q
 
-pub one-piece-cut : (t : Table) → OnePiece t → (S : ℕ → Bool) (x y : ℕ) → x < t .nodes → y < t .nodes → S x ≡ true → S y ≡ false → LeftByLink t S
+pub one-piece-cut : (t : Table) → OnePiece t → Cut t
 one-piece-cut t one S x y hx hy = cut-of-path t S (joined-trans (joined-sym (one x hx)) (one y hy))

@@ -6,13 +6,15 @@ use mathlib.Core.Logic.{_⊎_, inl, inr, ⊎-elim, _↔_}
 use mathlib.Core.List.{List, [], _∷_}
 use lib.Dec.{eqb, ltb, leb}
 use borrow.Author.Tests.{eqb-true, eq-eqb, ltb-true, lt-ltb, leb-true, le-leb, not-true}
+use Rattle.counting.specs.Count.{bit}
+use Rattle.counting.proofs.Booleans.{and-left, and-right, and-both, either}
+use Rattle.counting.proofs.Bits.{bit-false}
+use Rattle.counting.proofs.Directions.{both-none, both-zero, both-same, both-unique}
 use Rattle.paper.specs.Table.{Table}
 use Rattle.paper.specs.State.{Message, none, request, acknowledgement, State}
 use Rattle.paper.specs.Steps.{Step, childrenKnown, addChild, acknowledge, resolve, becomeRoot, possible, effect, unheard, carries, isRequest, sends, outOf, at, atDirection}
 use Rattle.paper.specs.Meanings.{SoundMarks}
 use Rattle.paper.specs.Published.{Edge, To, inverse, from, empty, hd, tl, append, assignEdge, Action, ADD-CHILD, ACK, ROOT, CHILDREN-KNOWN, RESOLVE-CONTENTION, Pre, Eff, queue, queues, actionOf, AsPublished}
-use Rattle.paper.proofs.Tests.{and-left, and-right, and-both, either}
-use Rattle.paper.proofs.Passing.{none-passes, pass-none, one-passes, pass-one}
 
 -- a test of three parts, and what each says
 three : {A B C : Type 0} (a b c : Bool) → (a ≡ true) ↔ A → (b ≡ true) ↔ B → (c ≡ true) ↔ C → (a && (b && c) ≡ true) ↔ (A × B × C)
@@ -55,10 +57,10 @@ heard-by-all : (t : Table) (s : State) (x : ℕ) → (eqb (unheard t s x) 0 ≡ 
 heard-by-all t s x = (all-heard, none-lacks)
   where
     all-heard : eqb (unheard t s x) 0 ≡ true → (e : Edge) → To t x e → s .child (e .link) (e .end) ≡ true
-    all-heard zero e to = ⊎-elim (λ h. h) (λ h. absurd (true≢false (sym (lacks-child t s x e to h) ∙ none-passes (t .links) (lacks t s x) (eqb-true _ _ zero) (e .link) (e .end) (to .0)))) (either (s .child (e .link) (e .end)))
+    all-heard zero e to = ⊎-elim (λ h. h) (λ h. absurd (true≢false (sym (lacks-child t s x e to h) ∙ both-zero (t .links) (lacks t s x) (eqb-true _ _ zero) (e .link) (e .end) (to .0)))) (either (s .child (e .link) (e .end)))
 
     none-lacks : ((e : Edge) → To t x e → s .child (e .link) (e .end) ≡ true) → eqb (unheard t s x) 0 ≡ true
-    none-lacks all = eq-eqb _ _ (pass-none (t .links) (lacks t s x) (λ i b h. ⊎-elim (λ e. absurd (lacks-none t s x i b e (all _ (lacks-to t s x i b h e)))) (λ e. e) (either (lacks t s x i b))))
+    none-lacks all = eq-eqb _ _ (both-none (t .links) (λ i b. bit (lacks t s x i b)) (λ i b h. bit-false (⊎-elim (λ e. absurd (lacks-none t s x i b e (all _ (lacks-to t s x i b h e)))) (λ e. e) (either (lacks t s x i b)))))
 
 heard-but-one : (t : Table) (s : State) (x : ℕ) → (leb (unheard t s x) 1 ≡ true) ↔ ((e f : Edge) → To t x e → To t x f → (s .child (e .link) (e .end) ≡ true) ⊎ (s .child (f .link) (f .end) ≡ true) ⊎ (e ≡ f))
 heard-but-one t s x = (pairwise, at-most-one)
@@ -70,11 +72,11 @@ heard-but-one t s x = (pairwise, at-most-one)
         go (inl h) r = inl h
         go (inr h) (inl g) = inr (inl g)
         go (inr h) (inr g) =
-            let same = one-passes (t .links) (lacks t s x) (leb-true _ _ one) (e .link) (e .end) (f .link) (f .end) (to .0) (also .0) (lacks-child t s x e to h) (lacks-child t s x f also g) in
+            let same = both-same (t .links) (lacks t s x) (leb-true _ _ one) (e .link) (e .end) (f .link) (f .end) (to .0) (also .0) (lacks-child t s x e to h) (lacks-child t s x f also g) in
             inr (inr (λ k. record { link = same .0 k; end = same .1 k }))
 
     at-most-one : ((e f : Edge) → To t x e → To t x f → (s .child (e .link) (e .end) ≡ true) ⊎ (s .child (f .link) (f .end) ≡ true) ⊎ (e ≡ f)) → leb (unheard t s x) 1 ≡ true
-    at-most-one pair = le-leb _ _ (pass-one (t .links) (lacks t s x) (λ i b j c h g e f. go i b j c e f (pair _ _ (lacks-to t s x i b h e) (lacks-to t s x j c g f))))
+    at-most-one pair = le-leb _ _ (both-unique (t .links) (lacks t s x) (λ i b j c h g e f. go i b j c e f (pair _ _ (lacks-to t s x i b h e) (lacks-to t s x j c g f))))
       where
         go : (i : ℕ) (b : Bool) (j : ℕ) (c : Bool) → lacks t s x i b ≡ true → lacks t s x j c ≡ true → (s .child i b ≡ true) ⊎ (s .child j c ≡ true) ⊎ (_≡_ {A = Edge} (record { link = i; end = b }) (record { link = j; end = c })) → (i ≡ j) × (b ≡ c)
         go i b j c e f (inl h) = absurd (lacks-none t s x i b e h)

@@ -1,17 +1,18 @@
 -- How three bytes are read: the cases, and that a step's three bytes, and no others, are read as that step.
 use Prim.Native.Nat.{ℕ, suc, _<_, _≤_}
-use mathlib.Core.Bool.{Bool, true, false, not, cond, _&&_, false≢true}
+use mathlib.Core.Bool.{Bool, true, false, not, cond, _&&_, false≢true, Bool·not-not}
 use mathlib.Core.Path.{_≡_, refl, sym, ap, subst, subst⁻¹, _∙_}
 use mathlib.Core.Logic.{_⊎_, inl, inr, ⊎-elim}
 use lib.Dec.{eqb, ltb, leb}
 use borrow.Author.Tests.{eqb-true, ne-eqb, ltb-true, lt-ltb, leb-true}
 use native.Mathlib.Omega.{arith}
 use native.Mathlib.Decide.{ℕ-discrete}
+use Rattle.counting.proofs.Booleans.{eqb-same, and-left, and-right, and-both, or-left, or-right, or-cases, clash}
+use Rattle.counting.proofs.Tests.{least-only, least-passes}
 use Rattle.paper.specs.Table.{Table, source, target, EndsBelow, NoSelfLink}
 use Rattle.paper.specs.Steps.{Step, childrenKnown, addChild, acknowledge, resolve, becomeRoot}
 use Rattle.paper.specs.Actions.{Reading, names, unread, joins, linkBetween, directionFrom, nodeStep, linkStep, readNode, readLink, ofNode, ofLink, reading}
 use Rattle.paper.specs.Meanings.{NoRepeat, kindOf, firstOf, secondOf}
-use Rattle.paper.proofs.Tests.{not-not, eqb-same, and-left, and-right, and-both, or-left, or-right, or-cases, clash, least-only, least-passes}
 use Rattle.paper.proofs.Changes.{InTable}
 
 -- the cases of a reading: a node's step, a link's step, or a number of refusal that isn't 0
@@ -121,7 +122,7 @@ link-read t ends loops repeats i b h kind =
         same f = repeats j i b g h (eqb-true _ _ (and-left (eqb (t .end j false) (source t i b)) _ f)) (eqb-true _ _ (and-right (eqb (t .end j false) (source t i b)) _ f))
 
         turned : eqb (t .end j false) (target t i b) && eqb (t .end j true) (source t i b) ≡ true → j ≡ i
-        turned f = repeats j i (not b) g h (eqb-true _ _ (and-left (eqb (t .end j false) (target t i b)) _ f)) (eqb-true _ _ (and-right (eqb (t .end j false) (target t i b)) _ f) ∙ ap (t .end i) (sym (not-not b)))
+        turned f = repeats j i (not b) g h (eqb-true _ _ (and-left (eqb (t .end j false) (target t i b)) _ f)) (eqb-true _ _ (and-right (eqb (t .end j false) (target t i b)) _ f) ∙ ap (t .end i) (sym (Bool·not-not b)))
 
     found : linkBetween t (source t i b) (target t i b) ≡ i
     found = least-only (t .links) (joins t (source t i b) (target t i b)) (t .links) i h (joins-own t i b) only

@@ -29,6 +29,14 @@ abbrev pub NoRepeat : Table → Type 0
 NoRepeat t =
     (i j : ℕ) (b : Bool) → i < t .links → j < t .links → t .end i false ≡ t .end j b → t .end i true ≡ t .end j (not b) → i ≡ j
 
+-- some link goes from a node of the set S to a node outside it
+abbrev pub LeftByLink : Table → (ℕ → Bool) → Type 0
+LeftByLink t S = (i : ℕ) × (b : Bool) × (i < t .links) × (S (t .end i b) ≡ true) × (S (t .end i (not b)) ≡ false)
+
+-- every set of nodes with a node inside and a node outside is left by some link
+abbrev pub Cut : Table → Type 0
+Cut t = (S : ℕ → Bool) (x y : ℕ) → x < t .nodes → y < t .nodes → S x ≡ true → S y ≡ false → LeftByLink t S
+
 -- the three bytes of a step: its kind, the node or the source of its direction, 255 or the target
 abbrev pub kindOf : Step → ℕ
 kindOf (childrenKnown x) = 1

@@ -1,6 +1,6 @@
 -- The runner: from the fresh state, the first listed step until none is left.
 use Prim.Native.Nat.{ℕ, zero, suc, _+_, _*_}
-use mathlib.Core.List.{List, [], _∷_}
+use mathlib.Core.List.{[], _∷_}
 use Rattle.paper.specs.Upload.{byteAt}
 use Rattle.paper.specs.Table.{Table}
 use Rattle.paper.specs.State.{State, fresh}

@@ -1,6 +1,6 @@
 -- The state: three marks for each node, a mark and at most one message for each direction.
 use Prim.Native.Nat.{ℕ}
-use mathlib.Core.Bool.{Bool, true, false}
+use mathlib.Core.Bool.{Bool, false}
 use lib.Dec.{ltb}
 use Rattle.paper.specs.Table.{Table}
 

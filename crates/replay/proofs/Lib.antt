@@ -7,3 +7,8 @@ pub mod Stepped
 pub mod Replaying
 pub mod Replayed
 pub mod Unique
+pub mod Promises
+pub mod Listed
+pub mod Running
+pub mod Singles
+pub mod Advancing

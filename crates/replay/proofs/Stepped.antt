@@ -79,26 +79,38 @@ module _ (upload image : List ℕ) (kind x y : ℕ) where
       ∙ first-alone (actionRefusal number 0) (λ e. at-zero number ∙ ap (λ (k : ℕ). record { number = k; place = 0 }) e)
       ∙ at-zero number
 
-  -- what is answered and left of an action that was tried
-  module _ (number : ℕ) (after : List ℕ) (h : tableRefusal upload .number ≡ 0) (g : (fits (tableOf upload) image && sound (tableOf upload) image) ≡ true) (w : Taken upload image kind x y number after) where
-    pub step-done : reported (record { number = number; place = 0 }) (bit (eqb number 0)) (tableOf upload) (stateOf (tableOf upload) after) ≡ stepAnswer upload image kind x y
+  -- and is answered and left by its action alone
+  module _ (h : tableRefusal upload .number ≡ 0) (g : (fits (tableOf upload) image && sound (tableOf upload) image) ≡ true) where
+    pub step-answer : stepAnswer upload image kind x y ≡ reported (record { number = refusedBy (tableOf upload) (stateOf (tableOf upload) image) (reading (tableOf upload) kind x y); place = 0 }) (cond (eqb (refusedBy (tableOf upload) (stateOf (tableOf upload) image) (reading (tableOf upload) kind x y)) 0) 1 0) (tableOf upload) (stepState upload image kind x y)
     unfolding stepAnswer
-    step-done =
+    step-answer =
         let t = tableOf upload in
-        let next = nextState upload (stateOf t image) kind x y in
+        let next = stepState upload image kind x y in
         let said : Refusal = record { number = refusedBy t (stateOf t image) (reading t kind x y); place = 0 } in
-        ap (reported (record { number = number; place = 0 }) (bit (eqb number 0)) t) (w .holds .shows)
-        ∙ ap (λ (k : ℕ). reported (record { number = k; place = 0 }) (bit (eqb k 0)) t next) (w .refused)
-        ∙ ap (λ (k : ℕ). reported said k t next) (one-or-none (eqb (said .number) 0))
-        ∙ sym (answered-action said (cond (eqb (said .number) 0) 1 0) t next (of-action t (stateOf t image) kind x y))
-        ∙ ap (λ (r : Refusal). answered r (cond (eqb (r .number) 0) 1 0) t next) (sym (step-tried h g))
+        ap (λ (r : Refusal). answered r (cond (eqb (r .number) 0) 1 0) t next) (step-tried h g)
+        ∙ answered-action said (cond (eqb (said .number) 0) 1 0) t next (of-action t (stateOf t image) kind x y)
 
-    pub step-done-left : after ≡ stepImage upload image kind x y
+    pub step-left : stepImage upload image kind x y ≡ cond (eqb (refusedBy (tableOf upload) (stateOf (tableOf upload) image) (reading (tableOf upload) kind x y)) 0) (imageOf (tableOf upload) (stateAfter (tableOf upload) (stateOf (tableOf upload) image) (reading (tableOf upload) kind x y))) image
     unfolding stepImage
-    step-done-left =
+    step-left =
         let t = tableOf upload in
-        let next = nextState upload (stateOf t image) kind x y in
-        w .left
-        ∙ ap (λ (k : ℕ). cond (eqb k 0) (imageOf t (stateAfter t (stateOf t image) (reading t kind x y))) image) (w .refused)
-        ∙ same-where-taken (eqb (refusedBy t (stateOf t image) (reading t kind x y)) 0) (imageOf t) (stateAfter t (stateOf t image) (reading t kind x y)) (stateOf t image) image
-        ∙ ap (λ (r : Refusal). left r (imageOf t next) image) (sym (step-tried h g))
+        ap (λ (r : Refusal). left r (imageOf t (stepState upload image kind x y)) image) (step-tried h g)
+        ∙ sym (same-where-taken (eqb (refusedBy t (stateOf t image) (reading t kind x y)) 0) (imageOf t) (stateAfter t (stateOf t image) (reading t kind x y)) (stateOf t image) image)
+
+    -- what is answered and left of an action that was tried
+    module _ (number : ℕ) (after : List ℕ) (w : Taken upload image kind x y number after) where
+      pub step-done : reported (record { number = number; place = 0 }) (bit (eqb number 0)) (tableOf upload) (stateOf (tableOf upload) after) ≡ stepAnswer upload image kind x y
+      step-done =
+          let t = tableOf upload in
+          let next = nextState upload (stateOf t image) kind x y in
+          ap (reported (record { number = number; place = 0 }) (bit (eqb number 0)) t) (w .holds .shows)
+          ∙ ap (λ (k : ℕ). reported (record { number = number; place = 0 }) k t next) (one-or-none (eqb number 0))
+          ∙ ap (λ (k : ℕ). reported (record { number = k; place = 0 }) (cond (eqb k 0) 1 0) t next) (w .refused)
+          ∙ sym step-answer
+
+      pub step-done-left : after ≡ stepImage upload image kind x y
+      step-done-left =
+          let t = tableOf upload in
+          w .left
+          ∙ ap (λ (k : ℕ). cond (eqb k 0) (imageOf t (stateAfter t (stateOf t image) (reading t kind x y))) image) (w .refused)
+          ∙ sym step-left

@@ -1,2 +1,4 @@
 pub mod Taken
 pub mod Replaying
+pub mod Promises
+pub mod Running

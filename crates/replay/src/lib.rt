@@ -6,10 +6,12 @@ ghost use Rattle.paper.specs.Upload.{byteAt, actionsOf, actionAt};
 ghost use Rattle.paper.specs.Table.{tableOf};
 ghost use Rattle.paper.specs.Image.{imageLength, fits, sound, stateOf};
 ghost use Rattle.paper.specs.Refusals.{tableRefusal};
-ghost use Rattle.paper.specs.Calls.{refusedWith, reported, reportAnswer, freshAnswer, freshImage, stepAnswer, stepImage, replayed, replayAnswer};
+ghost use Rattle.paper.specs.Calls.{refusedWith, reported, reportAnswer, listAnswer, listBuffer, freshAnswer, freshImage, stepAnswer, stepImage, replayed, replayAnswer, runAnswer, runImage};
+ghost use Rattle.paper.specs.Runner.{longest};
 ghost use Rattle.marks.specs.Lent.{Lent};
 ghost use Rattle.replay.specs.Taken.{Taken};
 ghost use Rattle.replay.specs.Replaying.{ReplayedTo};
+ghost use Rattle.replay.specs.Running.{Advanced, RanTo};
 ghost use Rattle.table.specs.Accepted.{Accepted};
 
 // A refusal that is not of an action.
@@ -93,6 +95,25 @@ pub fn report(upload: &[u8], image: &[u8]) -> paper::Answer
         return refused(12, 0);
     }
     reporting(upload, image, 0, 0, 0)
+}
+
+// List: the possible steps of a lent image, into a lent buffer.
+pub fn list(upload: &[u8], image: &[u8], buffer: &mut [u8]) -> paper::Answer
+    ensures { λ r. ⌜ r ≡ listAnswer (now (upload .entry)) (now (image .entry)) (now (buffer .entry)) ⌝ }
+    ensures { λ _. ⌜ now (buffer .exit) ≡ listBuffer (now (upload .entry)) (now (image .entry)) (now (buffer .entry)) ⌝ }
+{
+    let checked = table_answer(upload);
+    if checked.refusal != 0 {
+        return checked;
+    }
+    if !good_image(upload, image) {
+        return refused(12, 0);
+    }
+    if buffer.len() < 3 * listing::count_listed(upload, image) {
+        return refused(13, 0);
+    }
+    let count = listing::list(upload, image, buffer);
+    reporting(upload, image, 0, 0, count as u16)
 }
 
 // Fresh: makes the fresh image.
@@ -201,4 +222,64 @@ pub fn replay(upload: &[u8]) -> paper::Answer
     let mut buffer: [u8; 315] = [0; 315];
     let k = image_length(upload);
     replay_on(upload, &mut buffer[..k])
+}
+
+// Takes the first listed step, if there is one.
+fn take_first(upload: &[u8], image: &mut [u8]) -> bool
+    requires { ⌜ Lent (now upload) (now image) × (sound (tableOf (now upload)) (now image) ≡ true) ⌝ }
+    ensures { λ r. ⌜ Advanced (now (upload .entry)) (now (image .entry)) r (now (image .exit)) ⌝ }
+{
+    let first = first::first_listed(upload, image);
+    if first.found {
+        image::take(
+            upload,
+            image,
+            first.kind,
+            first.x as usize,
+            first.link,
+            first.back,
+        );
+    }
+    first.found
+}
+
+// No run is longer than this.
+fn longest_run(upload: &[u8]) -> usize
+    requires { ⌜ Accepted (now upload) ⌝ }
+    ensures { λ r. ⌜ (r ≡ longest (tableOf (now (upload .entry)))) × (r ≤ 819) ⌝ }
+{
+    5 * upload::nodes(upload) + 4 * upload::links(upload)
+}
+
+// Makes the image fresh and takes the first listed step until none is left; answers the steps taken.
+fn run_into(upload: &[u8], image: &mut [u8]) -> u16
+    requires { ⌜ Lent (now upload) (now image) ⌝ }
+    ensures { λ r. ⌜ RanTo (now (upload .entry)) r (now (image .exit)) ⌝ }
+{
+    image::make_fresh(upload, image);
+    let most = longest_run(upload);
+    let mut steps: usize = 0;
+    while steps < most {
+        if !take_first(upload, image) {
+            return steps as u16;
+        }
+        steps += 1;
+    }
+    steps as u16
+}
+
+// Run: the runner, which leaves the end image.
+pub fn run(upload: &[u8], image: &mut [u8]) -> paper::Answer
+    ensures { λ r. ⌜ r ≡ runAnswer (now (upload .entry)) (now (image .entry)) ⌝ }
+    ensures { λ _. ⌜ now (image .exit) ≡ runImage (now (upload .entry)) (now (image .entry)) ⌝ }
+{
+    let checked = table_answer(upload);
+    if checked.refusal != 0 {
+        return checked;
+    }
+    if !fitting(upload, image) {
+        return refused(12, 0);
+    }
+    let steps = run_into(upload, image);
+    reporting(upload, image, 0, 0, steps)
 }

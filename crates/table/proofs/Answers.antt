@@ -1,5 +1,5 @@
 -- The refusal of an upload at each place where the checks end, and the answer that it gives.
-use Prim.Native.Nat.{ℕ, _+_, _≤_, _<_}
+use Prim.Native.Nat.{ℕ, _<_}
 use mathlib.Core.Bool.{Bool, true, false, not}
 use mathlib.Core.Path.{_≡_, refl, ap, _∙_}
 use mathlib.Core.List.{List, [], _∷_}
@@ -8,13 +8,12 @@ use lib.ListN.{length}
 use lib.Dec.{ltb, eqb}
 use borrow.Author.Tests.{ne-eqb, eq-eqb, le-ltb}
 use Rattle.paper.specs.Upload.{nodesOf, linksOf, actionsOf, exactLength}
-use Rattle.paper.specs.Table.{tableOf, EndsBelow, onePiece}
+use Rattle.paper.specs.Table.{tableOf, onePiece}
 use Rattle.paper.specs.Refusals.{Refusal, first, given, inRange, linkRefusal, linksRefusal, refusal, tableRefusal}
-use Rattle.table.specs.declared.Checked.{Checked}
 use Rattle.table.specs.declared.Checked.the-variants.{Refused}
-use Rattle.table.specs.Checked.{answeredAt, pieceRefusal, linksThenPiece, HeaderPasses, LinksInside, pick}
+use Rattle.table.specs.Checked.{answeredAt, pieceRefusal, linksThenPiece, HeaderPasses}
 use Rattle.table.proofs.Tells.{holds, tells-range}
-use Rattle.table.proofs.OneLink.{link-place, link-passed, passed-ends}
+use Rattle.table.proofs.OneLink.{link-place}
 use Rattle.table.proofs.Order.{Clear, first-skip, first-stop, links-at, links-clear}
 
 -- n, m and a of an upload, tried for their ranges
@@ -62,11 +61,6 @@ module _ (upload : List ℕ) where
       alone : (b : Bool) → first (given b 8 0 ∷ []) ≡ given b 8 0
       alone true = refl
       alone false = refl
-
-  pub clear-ends : Clear (tableOf upload) 0 (linksOf upload) → EndsBelow (tableOf upload)
-  clear-ends clear i b there =
-      let t = tableOf upload in
-      passed-ends t i (link-passed t i (clear i (omega arith) there)) b
 
   -- a refusal is answered with its number and its place
   pub answered-refused : (r : Refusal) → (r .number ≡ 0 → ⊥) → answeredAt upload r ≡ Refused (r .number) (r .place)

@@ -1,8 +1,7 @@
 -- Each refusal of the table is given exactly when document 01 says so, with the place that it says.
-use Prim.Native.Nat.{ℕ, _+_, _≤_, _<_}
-use mathlib.Core.Bool.{Bool, true, false, not}
-use mathlib.Core.Path.{_≡_, refl, sym, ap, subst, subst₂, _∙_}
-use mathlib.Core.Logic.{_⊎_, inl, inr, _↔_}
+use Prim.Native.Nat.{ℕ, _≤_, _<_}
+use mathlib.Core.Path.{_≡_, refl, sym, ap, subst₂, _∙_}
+use mathlib.Core.Logic.{_⊎_, inl, inr}
 use mathlib.Core.List.{List}
 use native.Mathlib.Omega.{arith}
 use native.Mathlib.Decide.{decLt, decLe, ℕ-discrete}
@@ -12,7 +11,7 @@ use Rattle.paper.specs.Upload.{nodesOf, linksOf, actionsOf, exactLength}
 use Rattle.paper.specs.Table.{tableOf, OnePiece, onePiece}
 use Rattle.paper.specs.Refusals.{Refusal, tableRefusal, linkRefusal}
 use Rattle.table.specs.Checked.{InRange, HeaderPasses, pieceRefusal}
-use Rattle.table.specs.ExactlyWhen.{OutOfRange, noNode, manyNodes, manyLinks, manyActions, WrongLength, under, inexact, NamesNoNode, JoinsItself, Repeats, LinkPasses, LinksPass, Reaches, AllLinksPass, Given, ExactlyWhen}
+use Rattle.table.specs.ExactlyWhen.{OutOfRange, noNode, manyNodes, manyLinks, manyActions, WrongLength, under, inexact, NamesNoNode, JoinsItself, Repeats, LinksPass, Reaches, AllLinksPass, Given, ExactlyWhen}
 use Rattle.table.proofs.Tells.{holds, fails, decided, tells-range, tells-pieces}
 use Rattle.table.proofs.OneLink.{Why, named, itself, again, passing, why, link-names, link-itself, link-repeats, link-passes, link-passed}
 use Rattle.table.proofs.Order.{Clear, Found, links-search}
@@ -105,13 +104,13 @@ module _ (upload : List ℕ) where
   some-piece a (yes p) = (0, 0, none a p)
   some-piece a (no p) = (8, 0, ofPieces a p)
 
-  some-later : HeaderPasses upload → Clear (tableOf upload) 0 (0 + linksOf upload) ⊎ Found (tableOf upload) 0 (linksOf upload) → Some
+  some-later : HeaderPasses upload → Clear (tableOf upload) 0 (linksOf upload) ⊎ Found (tableOf upload) (linksOf upload) → Some
   some-later h (inl clear) =
-      some-piece (record { header = h; links = passes-of (linksOf upload) (λ l p q. clear l p (omega arith)) })
+      some-piece (record { header = h; links = passes-of (linksOf upload) clear })
       (decided (onePiece (tableOf upload)) (tells-pieces (tableOf upload)))
   some-later h (inr f) =
       some-link (f .place)
-      (record { header = h; there = omega (arith, f .below); earlier = passes-of (f .place) (f .clear) })
+      (record { header = h; there = f .below; earlier = passes-of (f .place) (f .clear) })
       (f .refused)
 
   some-ground : Some
@@ -127,7 +126,7 @@ module _ (upload : List ℕ) where
       go (no l) (no r) e = (4, 0, ofRange (omega arith) (which-range upload r))
       go (no l) (yes r) (no e) = (3, 0, ofLength (inexact (omega arith) r e))
       go (no l) (yes r) (yes e) =
-          some-later (record { range = r; exact = e }) (links-search (tableOf upload) 0 (linksOf upload))
+          some-later (record { range = r; exact = e }) (links-search (tableOf upload) (linksOf upload))
 
   -- the ground of the refusal that is given
   ground : (number place : ℕ) → Given upload number place → Ground number place

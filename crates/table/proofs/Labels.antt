@@ -1,6 +1,6 @@
 -- The table of labels: a loop that rewrites it from the front, one byte a turn, and what it says once every link is passed.
 use Prim.Native.Nat.{ℕ, _+_, _≤_, _<_}
-use mathlib.Core.Path.{_≡_, refl, sym, ap, _∙_}
+use mathlib.Core.Path.{_≡_, refl, ap, _∙_}
 use mathlib.Core.List.{List}
 use native.Mathlib.Omega.{arith}
 use native.Mathlib.Decide.{ℕ-discrete}
@@ -10,9 +10,9 @@ use lib.Dec.{eqb}
 use mathlib.Core.Bool.{true, false}
 use native.Mathlib.Numerals.{add-one}
 use Rattle.counting.specs.Count.{all}
-use Rattle.paper.specs.Table.{Table, EndsBelow, labels, onePiece}
-use Rattle.table.specs.Labels.{Labelled, Rewritten, ownNumber, renamed}
-use Rattle.table.proofs.Tests.{all-alike}
+use Rattle.counting.proofs.Tests.{all-alike}
+use Rattle.paper.specs.Table.{Table, labels, onePiece}
+use Rattle.table.specs.Labels.{Labelled, Rewritten, EndsWithin, ownNumber, joinedBy}
 
 -- the bytes below k are rewritten, the others are as they were
 pub record Reached (f : ℕ → ℕ → ℕ) (before : List ℕ) (k : ℕ) (after : List ℕ) : Type 0 where
@@ -48,13 +48,13 @@ module _ (t : Table) where
   labelled-none before after e w = record { count = w .count ∙ e; label = λ x h. w .label x (omega (arith, e)) }
 
   -- link k gives all nodes that have its second node's label the label of its first
-  pub labelled-more : (k : ℕ) (before after : List ℕ) → EndsBelow t → k < t .links → Labelled t k before → Rewritten (renamed (getD before (t .end k true) 0) (getD before (t .end k false) 0)) before after → Labelled t (k + 1) after
+  pub labelled-more : (k : ℕ) (before after : List ℕ) → EndsWithin t k (t .nodes) → Labelled t k before → Rewritten (joinedBy t k before) before after → Labelled t (k + 1) after
   unfolding labels
-  labelled-more k before after ends k< l w =
+  labelled-more k before after ends l w =
       record {
         count = w .count ∙ l .count;
         label = λ x h.
-            rw (add-one, ← l .label x h, ← l .label _ (ends k true k<), ← l .label _ (ends k false k<))
+            rw (add-one, ← l .label x h, ← l .label _ (ends true), ← l .label _ (ends false))
             (w .label x (omega (arith, l .count)));
       }
 

@@ -7,8 +7,9 @@ use native.Mathlib.Omega.{arith}
 use native.Mathlib.Decide.{decLt}
 use Rattle.paper.specs.Table.{Table, tableOf}
 use Rattle.paper.specs.Refusals.{tableRefusal}
+use Rattle.paper.specs.Meanings.{NoRepeat}
 use Rattle.paper.proofs.OnePiece.{one-piece-cut}
-use Rattle.table.specs.Accepted.{Accepted, NoRepeat}
+use Rattle.table.specs.Accepted.{Accepted}
 use Rattle.table.specs.ExactlyWhen.{LinksPass}
 use Rattle.table.proofs.OneLink.{passed-ends}
 use Rattle.table.proofs.ExactlyWhen.{passes-all}

@@ -1,4 +1,3 @@
-pub mod Tests
 pub mod Labels
 pub mod Tells
 pub mod OneLink
@@ -6,3 +5,4 @@ pub mod Order
 pub mod Answers
 pub mod ExactlyWhen
 pub mod Laws
+pub mod Unique

@@ -1,15 +1,16 @@
 -- One link tried for 5, 6 and 7: its refusal in plain terms.
-use Prim.Native.Nat.{ℕ, zero, _<_}
+use Prim.Native.Nat.{ℕ, _<_}
 use mathlib.Core.Bool.{Bool, true, false}
-use mathlib.Core.Path.{_≡_, refl, ap}
+use mathlib.Core.Path.{_≡_, refl}
 use mathlib.Core.List.{[], _∷_}
 use native.Mathlib.Decide.{decLt}
 use native.Mathlib.Omega.{arith}
 use borrow.Author.Tests.{eqb-false}
 use Rattle.paper.specs.Table.{Table}
 use Rattle.paper.specs.Refusals.{Refusal, given, first, namesNoNode, joinsItself, repeats, linkRefusal}
+use Rattle.table.specs.Checked.{linkNumber}
 use Rattle.table.specs.ExactlyWhen.{NamesNoNode, JoinsItself, Repeats, LinkPasses}
-use Rattle.table.proofs.Tells.{Tells, holds, fails, decided, tells-names, tells-itself, tells-repeats}
+use Rattle.table.proofs.Tells.{holds, fails, decided, tells-names, tells-itself, tells-repeats}
 
 -- the three tests of a link in their order
 abbrev tried : Bool → Bool → Bool → ℕ → Refusal
@@ -21,7 +22,16 @@ tried-place false true c i h = refl
 tried-place false false true i h = refl
 tried-place false false false i h = absurd (h refl)
 
+tried-number : (a b c : Bool) (i : ℕ) → linkNumber a b c ≡ tried a b c i .number
+tried-number true b c i = refl
+tried-number false true c i = refl
+tried-number false false true i = refl
+tried-number false false false i = refl
+
 module _ (t : Table) (i : ℕ) where
+  pub link-number : linkNumber (namesNoNode t i) (joinsItself t i) (repeats t i) ≡ linkRefusal t i .number
+  link-number = tried-number (namesNoNode t i) (joinsItself t i) (repeats t i) i
+
   pub link-place : (linkRefusal t i .number ≡ 0 → ⊥) → linkRefusal t i .place ≡ i
   link-place = tried-place (namesNoNode t i) (joinsItself t i) (repeats t i) i
 

@@ -1,7 +1,7 @@
 -- The order of the checks: the first refusal of a list, and the first link that is refused.
 use Prim.Native.Nat.{ℕ, zero, suc, _+_, _≤_, _<_}
-use mathlib.Core.Bool.{Bool, true, false, cond}
-use mathlib.Core.Path.{_≡_, refl, sym, ap, subst, _∙_}
+use mathlib.Core.Bool.{cond}
+use mathlib.Core.Path.{_≡_, refl, ap, subst, _∙_}
 use mathlib.Core.List.{List, [], _∷_}
 use mathlib.Core.Logic.{_⊎_, inl, inr}
 use native.Mathlib.Omega.{arith}
@@ -68,35 +68,18 @@ module _ (t : Table) where
       go (yes e) below = subst (λ (l : ℕ). linksRefusal t i (suc k) ≡ linkRefusal t l) e (links-bad i k (λ z. bad (subst (λ (l : ℕ). linkRefusal t l .number ≡ 0) e z)))
       go (no e) below = links-good i k (h i (omega arith) (omega arith)) ∙ below (omega arith)
 
-  -- the first of the k links from i on that is refused
-  pub record Found (i k : ℕ) : Type 0 where
+  -- the first of the k links that is refused
+  pub record Found (k : ℕ) : Type 0 where
     pub place : ℕ
-    pub from : i ≤ place
-    pub below : place < i + k
-    pub clear : Clear i place
+    pub below : place < k
+    pub clear : Clear 0 place
     pub refused : linkRefusal t place .number ≡ 0 → ⊥
 
-  pub links-search : (i k : ℕ) → Clear i (i + k) ⊎ Found i k
-  links-search i zero = inl (λ l p q. absurd (omega arith))
-  links-search i (suc k) = go (ℕ-discrete (linkRefusal t i .number) 0) (links-search (suc i) k)
+  pub links-search : (k : ℕ) → Clear 0 k ⊎ Found k
+  links-search zero = inl (λ l p q. absurd (omega arith))
+  links-search (suc k) = go (links-search k) (ℕ-discrete (linkRefusal t k .number) 0)
     where
-      here : (l : ℕ) → i ≤ l → (suc i ≤ l → linkRefusal t l .number ≡ 0) → linkRefusal t i .number ≡ 0 → linkRefusal t l .number ≡ 0
-      here l p h e = pick (ℕ-discrete i l)
-        where
-          pick : Dec (i ≡ l) → linkRefusal t l .number ≡ 0
-          pick (yes q) = subst (λ (x : ℕ). linkRefusal t x .number ≡ 0) q e
-          pick (no q) = h (omega arith)
-
-      go : Dec (linkRefusal t i .number ≡ 0) → Clear (suc i) (suc i + k) ⊎ Found (suc i) k → Clear i (i + suc k) ⊎ Found i (suc k)
-      go (no e) rest = inr (record { place = i; from = omega arith; below = omega arith; clear = λ l p q. absurd (omega arith); refused = e })
-      go (yes e) (inl all) = inl (λ l p q. here l p (λ r. all l r (omega arith)) e)
-      go (yes e) (inr f) =
-          inr (record { place = f .place; from = omega (arith, f .from); below = omega (arith, f .below); clear = λ l p q. here l p (λ r. f .clear l r q) e; refused = f .refused })
-
-  -- no link refused means that each passes
-  pub links-passed : (k : ℕ) → linksRefusal t 0 k .number ≡ 0 → Clear 0 k
-  links-passed k h = go (links-search 0 k)
-    where
-      go : Clear 0 (0 + k) ⊎ Found 0 k → Clear 0 k
-      go (inl all) = λ l p q. all l p (omega arith)
-      go (inr f) = absurd (f .refused (ap (λ r. r .number) (sym (links-at 0 k (f .place) (f .from) (f .below) (f .clear) (f .refused))) ∙ h))
+      go : Clear 0 k ⊎ Found k → Dec (linkRefusal t k .number ≡ 0) → Clear 0 (suc k) ⊎ Found (suc k)
+      go (inl clear) (yes e) = inl (λ l p q. clear-more 0 k clear e l p (omega arith))
+      go (inl clear) (no e) = inr (record { place = k; below = omega arith; clear = clear; refused = e })
+      go (inr f) e = inr (record { place = f .place; below = omega (arith, f .below); clear = f .clear; refused = f .refused })

@@ -1,22 +1,23 @@
 -- What the tests of the checks tell, in plain terms.
-use Prim.Native.Nat.{ℕ, zero, suc, _≤_, _<_}
+use Prim.Native.Nat.{ℕ, _≤_, _<_}
 use mathlib.Core.Bool.{Bool, true, false, not, _&&_, _||_, true≢false}
-use mathlib.Core.Path.{_≡_, refl, sym, subst, _∙_}
+use mathlib.Core.Path.{_≡_, refl, sym}
 use mathlib.Core.List.{List}
 use mathlib.Core.Logic.{_⊎_, inl, inr}
 use native.Mathlib.Omega.{arith}
-use native.Mathlib.Decide.{decLt, ℕ-discrete}
-use lib.ListN.{length}
+use native.Mathlib.Decide.{decLt}
 use lib.Dec.{ltb, leb, eqb}
 use borrow.Author.Tests.{ltb-true, ltb-false, leb-true, leb-false, eqb-true, eqb-false}
 use Rattle.counting.specs.Count.{some}
+use Rattle.counting.proofs.Booleans.{clash}
+use Rattle.counting.proofs.Tests.{some-true, some-holds}
 use Rattle.paper.specs.Upload.{nodesOf, linksOf, actionsOf}
 use Rattle.paper.specs.Table.{Table, OnePiece, onePiece}
 use Rattle.paper.specs.Actions.{joins}
 use Rattle.paper.specs.Refusals.{inRange, namesNoNode, joinsItself, repeats}
 use Rattle.paper.proofs.OnePiece.{one-piece, one-piece-back}
 use Rattle.table.specs.Checked.{InRange}
-use Rattle.table.specs.ExactlyWhen.{OutOfRange, noNode, manyNodes, manyLinks, manyActions, NamesNoNode, JoinsItself, Repeats}
+use Rattle.table.specs.ExactlyWhen.{NamesNoNode, JoinsItself, Repeats}
 
 -- a test is true where P holds, and false where it doesn't
 pub record Tells (b : Bool) (P : Type 0) : Type 0 where
@@ -66,21 +67,11 @@ tells-or false b {P} {Q} s t = record { yields = λ e. inr (t .yields e); denies
     neither e (inr q) = t .denies e q
 
 pub tells-some : (n : ℕ) (p : ℕ → Bool) (P : ℕ → Type 0) → ((i : ℕ) → Tells (p i) (P i)) → Tells (some n p) ((i : ℕ) × (i < n) × P i)
-unfolding some
-tells-some zero p P t = record { yields = λ e. absurd (true≢false (sym e)); denies = λ e w. absurd (omega (arith, w .1)) }
-tells-some (suc n) p P t =
-    tells-same (tells-or (some n p) (p n) (tells-some n p P t) (t n)) there back
-  where
-    there : ((i : ℕ) × (i < n) × P i) ⊎ P n → (i : ℕ) × (i < suc n) × P i
-    there (inl w) = (w .0, omega (arith, w .1), w .2)
-    there (inr q) = (n, omega arith, q)
-
-    back : (i : ℕ) × (i < suc n) × P i → ((i : ℕ) × (i < n) × P i) ⊎ P n
-    back w = pick (ℕ-discrete (w .0) n)
-      where
-        pick : Dec (w .0 ≡ n) → ((i : ℕ) × (i < n) × P i) ⊎ P n
-        pick (yes e) = inr (subst P e (w .2))
-        pick (no e) = inl (w .0, omega (arith, w .1), w .2)
+tells-some n p P t =
+    record {
+      yields = λ e. let (i, l, f) = some-true n p e in (i, l, t i .yields f);
+      denies = λ e w. clash (some-holds n p (w .0) (w .1) (holds (p (w .0)) (t (w .0)) (w .2))) e;
+    }
 
 pub tells-range : (upload : List ℕ) → Tells (inRange (nodesOf upload) (linksOf upload) (actionsOf upload)) (InRange upload)
 tells-range upload =
@@ -131,4 +122,4 @@ module _ (t : Table) (i : ℕ) where
 
 pub tells-pieces : (t : Table) → Tells (onePiece t) (OnePiece t)
 tells-pieces t =
-    record { yields = one-piece t; denies = λ e p. true≢false (sym (one-piece-back t p) ∙ e) }
+    record { yields = one-piece t; denies = λ e p. clash (one-piece-back t p) e }

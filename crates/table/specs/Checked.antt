@@ -1,12 +1,12 @@
 -- The answer of the reader, given from the paper's definitions.
 use Prim.Native.Nat.{ℕ, _≤_}
-use mathlib.Core.Bool.{Bool, true, false, not}
+use mathlib.Core.Bool.{Bool, true, false, not, cond}
 use mathlib.Core.Path.{_≡_}
 use mathlib.Core.List.{List, [], _∷_}
 use lib.ListN.{length}
 use lib.Dec.{eqb}
 use Rattle.paper.specs.Upload.{nodesOf, linksOf, actionsOf, exactLength}
-use Rattle.paper.specs.Table.{Table, tableOf, EndsBelow, onePiece}
+use Rattle.paper.specs.Table.{tableOf, onePiece}
 use Rattle.paper.specs.Refusals.{Refusal, first, given, linksRefusal, tableRefusal}
 use Rattle.table.specs.declared.Checked.{Checked}
 use Rattle.table.specs.declared.Checked.the-variants.{Accepted, Refused}
@@ -28,6 +28,10 @@ answeredAt upload r = answered (nodesOf upload) (linksOf upload) (actionsOf uplo
 unfoldable pub checked : List ℕ → Checked
 checked upload = answeredAt upload (tableRefusal upload)
 
+-- the number of a link by its three tests: names a node of n or more, joins a node to itself, repeats an earlier link
+abbrev pub linkNumber : Bool → Bool → Bool → ℕ
+linkNumber unnamed itself again = cond unnamed 5 (cond itself 6 (cond again 7 0))
+
 -- check 8
 abbrev pub pieceRefusal : List ℕ → Refusal
 pieceRefusal upload = given (not (onePiece (tableOf upload))) 8 0
@@ -47,8 +51,3 @@ pub record InRange (upload : List ℕ) : Type 0 where
 pub record HeaderPasses (upload : List ℕ) : Type 0 where
   pub range : InRange upload
   pub exact : length upload ≡ exactLength upload
-
--- the header passes, and every end of every link is a node
-pub record LinksInside (upload : List ℕ) : Type 0 where
-  pub header : HeaderPasses upload
-  pub ends : EndsBelow (tableOf upload)

@@ -1,5 +1,5 @@
 -- The table of refusals of document 01, numbers 3 to 8 with 0, in plain terms: what each number is given for, and at which place.
-use Prim.Native.Nat.{ℕ, zero, suc, _+_, _≤_, _<_}
+use Prim.Native.Nat.{ℕ, _≤_, _<_}
 use mathlib.Core.Bool.{Bool, true, false, not}
 use mathlib.Core.Path.{_≡_}
 use mathlib.Core.Logic.{_↔_}
@@ -7,7 +7,7 @@ use mathlib.Core.List.{List}
 use lib.ListN.{length}
 use Rattle.paper.specs.Upload.{nodesOf, linksOf, actionsOf, exactLength}
 use Rattle.paper.specs.Table.{Table, tableOf, OnePiece}
-use Rattle.paper.specs.Refusals.{Refusal, tableRefusal}
+use Rattle.paper.specs.Refusals.{tableRefusal}
 use Rattle.table.specs.Checked.{InRange, HeaderPasses}
 
 -- n, m or a is out of range

@@ -1,6 +1,6 @@
 -- The table of labels for one piece, byte by byte.
 use Prim.Native.Nat.{ℕ, _<_}
-use mathlib.Core.Bool.{cond}
+use mathlib.Core.Bool.{Bool, true, false, cond}
 use mathlib.Core.Path.{_≡_}
 use mathlib.Core.List.{List}
 use lib.ListN.{length, getD}
@@ -24,3 +24,11 @@ ownNumber x label = x
 -- the first label in place of the second, any other as it was
 abbrev pub renamed : ℕ → ℕ → ℕ → ℕ → ℕ
 renamed second first x label = cond (eqb label second) first label
+
+-- the renaming by link i: its second node's label becomes the label of its first
+abbrev pub joinedBy : Table → ℕ → List ℕ → ℕ → ℕ → ℕ
+joinedBy t i bytes = renamed (getD bytes (t .end i true) 0) (getD bytes (t .end i false) 0)
+
+-- both ends of link i are below n
+abbrev pub EndsWithin : Table → ℕ → ℕ → Type 0
+EndsWithin t i n = (b : Bool) → t .end i b < n

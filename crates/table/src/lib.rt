@@ -5,57 +5,17 @@ ghost use Prim.Native.Nat.{_+_, _<_, _≤_};
 ghost use lib.ListN.{length, getD};
 ghost use lib.Dec.{eqb};
 ghost use Rattle.counting.specs.Count.{all};
-ghost use Rattle.paper.specs.Upload.{byteAt, nodesOf, linksOf, actionsOf, linkAt};
-ghost use Rattle.paper.specs.Table.{tableOf, onePiece};
+ghost use Rattle.paper.specs.Upload.{nodesOf, linksOf, linkAt};
+ghost use Rattle.paper.specs.Table.{tableOf};
 ghost use Rattle.paper.specs.Actions.{joins};
 ghost use Rattle.paper.specs.Refusals.{inRange, repeats, linkRefusal};
-ghost use Rattle.table.specs.Labels.{Labelled, Rewritten, ownNumber, renamed};
-ghost use Rattle.table.specs.Checked.{checked, answeredAt, pieceRefusal, linksThenPiece, HeaderPasses, LinksInside};
+ghost use Rattle.table.specs.Labels.{Labelled, Rewritten, EndsWithin, ownNumber, renamed, joinedBy};
+ghost use Rattle.table.specs.Checked.{checked, linkNumber, answeredAt, pieceRefusal, linksThenPiece, HeaderPasses};
 
 // The answer of the reader.
 pub enum Checked {
     Accepted { n: usize, m: usize, a: usize },
     Refused { number: u8, place: u16 },
-}
-
-// The byte at a place, as a number.
-pub fn byte(s: &[u8], i: usize) -> usize
-    requires { ⌜ i < length (now s) ⌝ }
-    ensures { λ r. ⌜ (r ≡ byteAt (now (s .entry)) i) × (r < 256) ⌝ }
-{
-    s[i] as usize
-}
-
-// n, the number of nodes.
-pub fn nodes(upload: &[u8]) -> usize
-    requires { ⌜ 4 ≤ length (now upload) ⌝ }
-    ensures { λ r. ⌜ (r ≡ nodesOf (now (upload .entry))) × (r < 256) ⌝ }
-{
-    byte(upload, 0)
-}
-
-// m, the number of links.
-pub fn links(upload: &[u8]) -> usize
-    requires { ⌜ 4 ≤ length (now upload) ⌝ }
-    ensures { λ r. ⌜ (r ≡ linksOf (now (upload .entry))) × (r < 256) ⌝ }
-{
-    byte(upload, 1)
-}
-
-// a, the number of actions.
-pub fn actions(upload: &[u8]) -> usize
-    requires { ⌜ 4 ≤ length (now upload) ⌝ }
-    ensures { λ r. ⌜ (r ≡ actionsOf (now (upload .entry))) × (r < 65536) ⌝ }
-{
-    256 * byte(upload, 2) + byte(upload, 3)
-}
-
-// The first node of link i, or its second.
-pub fn end(upload: &[u8], i: usize, second: bool) -> usize
-    requires { ⌜ linkAt i + 1 < length (now upload) ⌝ }
-    ensures { λ r. ⌜ (r ≡ tableOf (now (upload .entry)) .end i second) × (r < 256) ⌝ }
-{
-    byte(upload, 4 + 2 * i + (second as usize))
 }
 
 // n, m and a are in range.
@@ -67,21 +27,21 @@ fn in_range(n: usize, m: usize, a: usize) -> bool
 
 // Link i joins x and y, either way round.
 fn joins(upload: &[u8], x: usize, y: usize, i: usize) -> bool
-    requires { ⌜ linkAt i + 1 < length (now upload) ⌝ }
+    requires { ⌜ linkAt i + 2 ≤ length (now upload) ⌝ }
     ensures { λ r. ⌜ r ≡ joins (tableOf (now (upload .entry))) x y i ⌝ }
 {
-    let p = end(upload, i, false);
-    let q = end(upload, i, true);
+    let p = upload::end(upload, i, false);
+    let q = upload::end(upload, i, true);
     ((p == x) & (q == y)) | ((p == y) & (q == x))
 }
 
 // Link i repeats an earlier one.
 fn repeats(upload: &[u8], i: usize) -> bool
-    requires { ⌜ linkAt i + 1 < length (now upload) ⌝ }
+    requires { ⌜ linkAt i + 2 ≤ length (now upload) ⌝ }
     ensures { λ r. ⌜ r ≡ repeats (tableOf (now (upload .entry))) i ⌝ }
 {
-    let x = end(upload, i, false);
-    let y = end(upload, i, true);
+    let x = upload::end(upload, i, false);
+    let y = upload::end(upload, i, true);
     let mut found = false;
     let mut j = 0;
     while j < i {
@@ -91,24 +51,31 @@ fn repeats(upload: &[u8], i: usize) -> bool
     found
 }
 
-// The number by which link i is refused, 0 where it passes.
-fn link_number(upload: &[u8], i: usize) -> u8
-    requires { ⌜ linkAt i + 1 < length (now upload) ⌝ }
-    ensures { λ r. ⌜ r ≡ linkRefusal (tableOf (now (upload .entry))) i .number ⌝ }
+// The number by which a link is refused: 5, 6 and 7 in turn, 0 where none of the tests holds.
+fn link_verdict(unnamed: bool, itself: bool, again: bool) -> u8
+    ensures { λ r. ⌜ r ≡ linkNumber unnamed itself again ⌝ }
 {
-    let n = nodes(upload);
-    let p = end(upload, i, false);
-    let q = end(upload, i, true);
-    if !((p < n) & (q < n)) {
+    if unnamed {
         return 5;
     }
-    if p == q {
+    if itself {
         return 6;
     }
-    if repeats(upload, i) {
+    if again {
         return 7;
     }
     0
+}
+
+// The number by which link i is refused, 0 where it passes.
+fn link_number(upload: &[u8], i: usize) -> u8
+    requires { ⌜ linkAt i + 2 ≤ length (now upload) ⌝ }
+    ensures { λ r. ⌜ r ≡ linkRefusal (tableOf (now (upload .entry))) i .number ⌝ }
+{
+    let n = upload::nodes(upload);
+    let p = upload::end(upload, i, false);
+    let q = upload::end(upload, i, true);
+    link_verdict(!((p < n) & (q < n)), p == q, repeats(upload, i))
 }
 
 // Every node has its own number as label.
@@ -141,19 +108,14 @@ fn relabel(labels: &mut [u8], second: u8, first: u8)
     }
 }
 
-// Each link in turn gives all nodes that have its second node's label the label of its first.
-fn join_all(labels: &mut [u8], upload: &[u8])
-    requires { ⌜ Labelled (tableOf (now upload)) 0 (now labels) × LinksInside (now upload) ⌝ }
-    ensures { λ r. ⌜ Labelled (tableOf (now (upload .entry))) (linksOf (now (upload .entry))) (now (labels .exit)) ⌝ }
+// All nodes that have the label of link i's second node get the label of its first.
+fn join_link(labels: &mut [u8], upload: &[u8], i: usize)
+    requires { ⌜ (linkAt i + 2 ≤ length (now upload)) × EndsWithin (tableOf (now upload)) i (length (now labels)) ⌝ }
+    ensures { λ r. ⌜ Rewritten (joinedBy (tableOf (now (upload .entry))) i (now (labels .entry))) (now (labels .entry)) (now (labels .exit)) ⌝ }
 {
-    let m = links(upload);
-    let mut i = 0;
-    while i < m {
-        let first = labels[end(upload, i, false)];
-        let second = labels[end(upload, i, true)];
-        relabel(labels, second, first);
-        i += 1;
-    }
+    let first = labels[upload::end(upload, i, false)];
+    let second = labels[upload::end(upload, i, true)];
+    relabel(labels, second, first);
 }
 
 // All labels are node 0's.
@@ -171,36 +133,16 @@ fn all_same(labels: &[u8]) -> bool
     same
 }
 
-// The labels of all nodes, worked out from the links, are the same.
-fn joined(labels: &mut [u8], upload: &[u8]) -> bool
-    requires { ⌜ (length (now labels) ≡ nodesOf (now upload)) × LinksInside (now upload) ⌝ }
-    ensures { λ r. ⌜ r ≡ onePiece (tableOf (now (upload .entry))) ⌝ }
-{
-    number_nodes(labels);
-    join_all(labels, upload);
-    all_same(labels)
-}
-
-// The table is in one piece.
-fn one_piece(upload: &[u8]) -> bool
-    requires { ⌜ LinksInside (now upload) ⌝ }
-    ensures { λ r. ⌜ r ≡ onePiece (tableOf (now (upload .entry))) ⌝ }
-{
-    let n = nodes(upload);
-    let mut labels = [0u8; 63];
-    joined(&mut labels[..n], upload)
-}
-
-// Check 8.
-fn piece_checked(upload: &[u8]) -> Checked
-    requires { ⌜ LinksInside (now upload) ⌝ }
+// Check 8: the labels after every link are all node 0's.
+fn piece_checked(labels: &[u8], upload: &[u8]) -> Checked
+    requires { ⌜ HeaderPasses (now upload) × Labelled (tableOf (now upload)) (linksOf (now upload)) (now labels) ⌝ }
     ensures { λ r. ⌜ r ≡ answeredAt (now (upload .entry)) (pieceRefusal (now (upload .entry))) ⌝ }
 {
-    if one_piece(upload) {
+    if all_same(labels) {
         Checked::Accepted {
-            n: nodes(upload),
-            m: links(upload),
-            a: actions(upload),
+            n: upload::nodes(upload),
+            m: upload::links(upload),
+            a: upload::actions(upload),
         }
     } else {
         Checked::Refused {
@@ -210,24 +152,52 @@ fn piece_checked(upload: &[u8]) -> Checked
     }
 }
 
-// Checks 5 to 8.
-fn links_checked(upload: &[u8]) -> Checked
-    requires { ⌜ HeaderPasses (now upload) ⌝ }
+// A link is refused at its own number.
+fn refused(number: u8, link: usize) -> Checked
+    requires { ⌜ link < 256 ⌝ }
+    ensures { λ r. ⌜ r ≡ Checked.Refused number link ⌝ }
+{
+    Checked::Refused {
+        number,
+        place: link as u16,
+    }
+}
+
+// Checks 5 to 8: each link in turn is tried, and then joins its nodes' labels.
+fn links_checked(labels: &mut [u8], upload: &[u8]) -> Checked
+    requires { ⌜ HeaderPasses (now upload) × Labelled (tableOf (now upload)) 0 (now labels) ⌝ }
     ensures { λ r. ⌜ r ≡ answeredAt (now (upload .entry)) (linksThenPiece (now (upload .entry))) ⌝ }
 {
-    let m = links(upload);
+    let m = upload::links(upload);
     let mut i = 0;
     while i < m {
         let number = link_number(upload, i);
         if number != 0 {
-            return Checked::Refused {
-                number,
-                place: i as u16,
-            };
+            return refused(number, i);
         }
+        join_link(labels, upload, i);
         i += 1;
     }
-    piece_checked(upload)
+    piece_checked(labels, upload)
+}
+
+// Checks 5 to 8, with a label for every node.
+fn nodes_checked(labels: &mut [u8], upload: &[u8]) -> Checked
+    requires { ⌜ HeaderPasses (now upload) × (length (now labels) ≡ nodesOf (now upload)) ⌝ }
+    ensures { λ r. ⌜ r ≡ answeredAt (now (upload .entry)) (linksThenPiece (now (upload .entry))) ⌝ }
+{
+    number_nodes(labels);
+    links_checked(labels, upload)
+}
+
+// Checks 5 to 8, once the header passes.
+fn table_checked(upload: &[u8]) -> Checked
+    requires { ⌜ HeaderPasses (now upload) ⌝ }
+    ensures { λ r. ⌜ r ≡ answeredAt (now (upload .entry)) (linksThenPiece (now (upload .entry))) ⌝ }
+{
+    let n = upload::nodes(upload);
+    let mut labels = [0u8; 63];
+    nodes_checked(&mut labels[..n], upload)
 }
 
 // Checks 3 to 8 of an upload, in the paper's order.
@@ -241,9 +211,9 @@ pub fn check(upload: &[u8]) -> Checked
             place: 0,
         };
     }
-    let m = links(upload);
-    let a = actions(upload);
-    if !in_range(nodes(upload), m, a) {
+    let m = upload::links(upload);
+    let a = upload::actions(upload);
+    if !in_range(upload::nodes(upload), m, a) {
         return Checked::Refused {
             number: 4,
             place: 0,
@@ -255,5 +225,5 @@ pub fn check(upload: &[u8]) -> Checked
             place: 0,
         };
     }
-    links_checked(upload)
+    table_checked(upload)
 }

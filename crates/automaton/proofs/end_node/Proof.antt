@@ -1,16 +1,11 @@
-use native.Mathlib.Omega.{arith}
 use borrow.Author.Needs.{needs}
+use native.Mathlib.Omega.{arith}
 use Rattle.automaton.proofs.end_node.Statement.{statement}
 use Rattle.automaton.proofs.end_node.Tie as tie
-use Rattle.automaton.proofs.end_node.Reads as reads
-use Rattle.automaton.proofs.end_node.Lts as lts
-use Rattle.upload.proofs.end.Reads as end-reads
 
--- src/lib.rt:52:5
 end-requires : tie.Need-end-requires
 end-requires c κs = search needs
 
--- src/lib.rt:48:1
 returns : tie.Need-returns
 returns c =
     let at = c .before .before in

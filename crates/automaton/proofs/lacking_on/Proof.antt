@@ -1,37 +1,28 @@
+use borrow.Author.Needs.{needs}
+use Prim.Native.Nat.{_+_}
 use mathlib.Core.Path.{_≡_, ap₂}
 use mathlib.Core.Bool.{Bool}
-use Prim.Native.Nat.{_+_}
+use native.Mathlib.Omega.{arith}
 use Rattle.counting.specs.Count.{bit}
 use Rattle.counting.proofs.Bits.{bit-most}
-use native.Mathlib.Omega.{arith}
-use borrow.Author.Needs.{needs}
 use Rattle.automaton.proofs.lacking_on.Statement.{statement}
 use Rattle.automaton.proofs.lacking_on.Tie as tie
-use Rattle.automaton.proofs.lacking_on.Reads as reads
-use Rattle.automaton.proofs.lacking_on.Lts as lts
-use Rattle.automaton.proofs.lacks_child.Reads as lacks-child-reads
 
--- src/lib.rt:28:5
 lacks-child-requires : tie.Need-lacks-child-requires
 lacks-child-requires c κs = search needs
 
--- src/lib.rt:28:5
 cast-result : tie.Need-cast-result
 cast-result c = search needs
 
--- src/lib.rt:28:56
 lacks-child-requires-2 : tie.Need-lacks-child-requires-2
 lacks-child-requires-2 c κs = search needs
 
--- src/lib.rt:28:56
 cast-result-2 : tie.Need-cast-result-2
 cast-result-2 c = search needs
 
--- src/lib.rt:28:5
 add-result : tie.Need-add-result
 add-result c = omega (arith, bit-most (c .before .lacks-child .result), bit-most (c .lacks-child2 .result))
 
--- src/lib.rt:24:1
 returns : tie.Need-returns
 returns c =
     let both : _ ≡ _ = ap₂ (λ (p q : Bool). bit p + bit q) (c .before .lacks-child .ensures) (c .lacks-child2 .ensures) in

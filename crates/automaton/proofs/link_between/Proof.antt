@@ -1,19 +1,15 @@
-use Rattle.automaton.proofs.More.{some-none, some-more, least-found, least-none}
+use borrow.Author.Needs.{needs}
+use Prim.Native.Nat.{ℕ, _-_, _≤_}
+use mathlib.Core.Bool.{false}
+use mathlib.Core.Path.{_≡_, sym, subst, _∙_}
+use native.Mathlib.Omega.{arith}
+use Rattle.counting.specs.Count.{some}
 use Rattle.paper.specs.Actions.{joins}
 use Rattle.paper.specs.Table.{tableOf}
 use Rattle.paper.specs.Upload.{linksOf}
-use Rattle.counting.specs.Count.{some}
-use mathlib.Core.Bool.{false}
-use mathlib.Core.Path.{_≡_, sym, subst, _∙_}
-use Prim.Native.Nat.{ℕ, _-_, _≤_}
-use native.Mathlib.Omega.{arith}
-use borrow.Author.Needs.{needs}
+use Rattle.automaton.proofs.More.{some-none, some-more, least-found, least-none}
 use Rattle.automaton.proofs.link_between.Statement.{statement}
 use Rattle.automaton.proofs.link_between.Tie as tie
-use Rattle.automaton.proofs.link_between.Reads as reads
-use Rattle.automaton.proofs.link_between.Lts as lts
-use Rattle.automaton.proofs.joins_at.Reads as joins-at-reads
-use Rattle.upload.proofs.links.Reads as links-reads
 
 abbrev Inv-loop : tie.InvT-loop
 Inv-loop upload x y m i₀ i = (i ≤ m) × (m ≡ linksOf upload) × (some i (joins (tableOf upload) x y) ≡ false)
@@ -21,39 +17,31 @@ Inv-loop upload x y m i₀ i = (i ≤ m) × (m ≡ linksOf upload) × (some i (j
 abbrev μ-loop : tie.MeasureT-loop
 μ-loop upload x y m i₀ i = m - i
 
--- src/lib.rt:124:9
 links-requires : tie.Need-links-requires Inv-loop μ-loop
 links-requires c κs = search needs
 
--- src/lib.rt:126:5
 loop-holds : tie.Need-loop-holds Inv-loop μ-loop
 loop-holds c = (search needs, c .links .ensures .0, some-none _)
 
--- src/lib.rt:127:12
 joins-at-requires : tie.Need-joins-at-requires Inv-loop μ-loop
 joins-at-requires c κs = search needs
 
--- src/lib.rt:128:13
 returns : tie.Need-returns Inv-loop μ-loop
 returns c =
     let now = c .before .before .before .loop in
     (sym (least-found _ _ _ _ (search needs) (now .inv .2) (sym (c .before .joins-at .ensures) ∙ c .if1 .taken)), search needs)
 
--- src/lib.rt:130:9
 add-i : tie.Need-add-i Inv-loop μ-loop
 add-i c = search needs
 
--- src/lib.rt:126:5
 loop-less : tie.Need-loop-less Inv-loop μ-loop
 loop-less c = search needs
 
--- src/lib.rt:126:5
 loop-again : tie.Need-loop-again Inv-loop μ-loop
 loop-again c =
     let now = c .before .before .before .loop in
     (search needs, now .inv .1, some-more _ _ (now .inv .2) (sym (c .before .joins-at .ensures) ∙ c .if1 .left))
 
--- src/lib.rt:120:1
 returns-2 : tie.Need-returns-2 Inv-loop μ-loop
 returns-2 c =
     let now = c .before .loop in

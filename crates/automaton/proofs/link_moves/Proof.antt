@@ -1,21 +1,15 @@
+use borrow.Author.Needs.{needs}
 use mathlib.Core.Bool.{_||_}
 use mathlib.Core.Path.{ap₂}
-use borrow.Author.Needs.{needs}
 use Rattle.automaton.proofs.link_moves.Statement.{statement}
 use Rattle.automaton.proofs.link_moves.Tie as tie
-use Rattle.automaton.proofs.link_moves.Reads as reads
-use Rattle.automaton.proofs.link_moves.Lts as lts
-use Rattle.automaton.proofs.direction_moves.Reads as direction-moves-reads
 
--- src/lib.rt:280:5
 direction-moves-requires : tie.Need-direction-moves-requires
 direction-moves-requires c κs = search needs
 
--- src/lib.rt:280:48
 direction-moves-requires-2 : tie.Need-direction-moves-requires-2
 direction-moves-requires-2 c κs = search needs
 
--- src/lib.rt:276:1
 returns : tie.Need-returns
 returns c = ap₂ _||_ (c .before .direction-moves .ensures) (c .direction-moves2 .ensures)
 

@@ -2,33 +2,22 @@ use borrow.Author.Tests.{eq-eqb, ne-eqb}
 use borrow.Author.Needs.{needs}
 use Rattle.automaton.proofs.link_possible.Statement.{statement}
 use Rattle.automaton.proofs.link_possible.Tie as tie
-use Rattle.automaton.proofs.link_possible.Reads as reads
-use Rattle.automaton.proofs.link_possible.Lts as lts
-use Rattle.automaton.proofs.may_acknowledge.Reads as may-acknowledge-reads
-use Rattle.automaton.proofs.may_add_child.Reads as may-add-child-reads
-use Rattle.automaton.proofs.may_resolve.Reads as may-resolve-reads
 
--- src/lib.rt:153:9
 may-add-child-requires : tie.Need-may-add-child-requires
 may-add-child-requires c κs = search needs
 
--- src/lib.rt:156:13
 may-acknowledge-requires : tie.Need-may-acknowledge-requires
 may-acknowledge-requires c κs = search needs
 
--- src/lib.rt:158:13
 may-resolve-requires : tie.Need-may-resolve-requires
 may-resolve-requires c κs = search needs
 
--- src/lib.rt:148:1
 returns : tie.Need-returns
 returns c = rw (eq-eqb _ 2 (c .before .if1 .taken)) (c .may-add-child .ensures)
 
--- src/lib.rt:148:1
 returns-2 : tie.Need-returns-2
 returns-2 c = rw (ne-eqb _ 2 (c .before .before .if1 .left), eq-eqb _ 3 (c .before .if2 .taken)) (c .may-acknowledge .ensures)
 
--- src/lib.rt:148:1
 returns-3 : tie.Need-returns-3
 returns-3 c = rw (ne-eqb _ 2 (c .before .before .if1 .left), ne-eqb _ 3 (c .before .if2 .left)) (c .may-resolve .ensures)
 

@@ -1,19 +1,14 @@
-use Rattle.automaton.proofs.More.{some-none, some-more, some-end, least-found, least-none}
-use Rattle.automaton.specs.Tried.{shown}
-use Rattle.paper.specs.Table.{tableOf}
-use Rattle.paper.specs.Upload.{nodesOf}
-use Rattle.counting.specs.Count.{some}
+use borrow.Author.Needs.{needs}
+use Prim.Native.Nat.{_-_, _≤_, _<_}
 use mathlib.Core.Bool.{false}
 use mathlib.Core.Path.{_≡_, sym, _∙_}
-use Prim.Native.Nat.{ℕ, _-_, _≤_, _<_}
 use native.Mathlib.Omega.{arith}
-use borrow.Author.Needs.{needs}
+use Rattle.counting.specs.Count.{some}
+use Rattle.paper.specs.Upload.{nodesOf}
+use Rattle.automaton.specs.Tried.{shown}
+use Rattle.automaton.proofs.More.{some-none, some-more, some-end, least-found, least-none}
 use Rattle.automaton.proofs.lowest_root.Statement.{statement}
 use Rattle.automaton.proofs.lowest_root.Tie as tie
-use Rattle.automaton.proofs.lowest_root.Reads as reads
-use Rattle.automaton.proofs.lowest_root.Lts as lts
-use Rattle.marks.proofs.root.Reads as root-reads
-use Rattle.upload.proofs.nodes.Reads as nodes-reads
 
 abbrev Inv-loop : tie.InvT-loop
 Inv-loop upload image n x₀ x = (x ≤ n) × (n ≡ nodesOf upload) × (some x ((shown upload image) .root) ≡ false)
@@ -21,19 +16,15 @@ Inv-loop upload image n x₀ x = (x ≤ n) × (n ≡ nodesOf upload) × (some x 
 abbrev μ-loop : tie.MeasureT-loop
 μ-loop upload image n x₀ x = n - x
 
--- src/lib.rt:362:9
 nodes-requires : tie.Need-nodes-requires Inv-loop μ-loop
 nodes-requires c κs = search needs
 
--- src/lib.rt:364:5
 loop-holds : tie.Need-loop-holds Inv-loop μ-loop
 loop-holds c = (search needs, c .nodes .ensures .0, some-none _)
 
--- src/lib.rt:365:12
 root-requires : tie.Need-root-requires Inv-loop μ-loop
 root-requires c κs = search needs
 
--- src/lib.rt:366:13
 returns : tie.Need-returns Inv-loop μ-loop
 returns c =
     let now = c .before .before .before .loop in
@@ -41,21 +32,17 @@ returns c =
     let below : now .x < nodesOf (at .args .upload .now) = omega arith in
     (sym (least-found _ _ _ _ below (now .inv .2) (sym (c .before .root .ensures) ∙ c .if1 .taken)), omega (arith, at .pre .table .nodesFit))
 
--- src/lib.rt:368:9
 add-x : tie.Need-add-x Inv-loop μ-loop
 add-x c = search needs
 
--- src/lib.rt:364:5
 loop-less : tie.Need-loop-less Inv-loop μ-loop
 loop-less c = search needs
 
--- src/lib.rt:364:5
 loop-again : tie.Need-loop-again Inv-loop μ-loop
 loop-again c =
     let now = c .before .before .before .loop in
     (search needs, now .inv .1, some-more _ _ (now .inv .2) (sym (c .before .root .ensures) ∙ c .if1 .left))
 
--- src/lib.rt:358:1
 returns-2 : tie.Need-returns-2 Inv-loop μ-loop
 returns-2 c =
     let now = c .before .loop in

@@ -2,24 +2,16 @@ use borrow.Author.Tests.{eq-eqb, ne-eqb}
 use borrow.Author.Needs.{needs}
 use Rattle.automaton.proofs.node_possible.Statement.{statement}
 use Rattle.automaton.proofs.node_possible.Tie as tie
-use Rattle.automaton.proofs.node_possible.Reads as reads
-use Rattle.automaton.proofs.node_possible.Lts as lts
-use Rattle.automaton.proofs.may_become_root.Reads as may-become-root-reads
-use Rattle.automaton.proofs.may_know_children.Reads as may-know-children-reads
 
--- src/lib.rt:141:9
 may-know-children-requires : tie.Need-may-know-children-requires
 may-know-children-requires c κs = search needs
 
--- src/lib.rt:143:9
 may-become-root-requires : tie.Need-may-become-root-requires
 may-become-root-requires c κs = search needs
 
--- src/lib.rt:136:1
 returns : tie.Need-returns
 returns c = rw (eq-eqb _ 1 (c .before .if1 .taken)) (c .may-know-children .ensures)
 
--- src/lib.rt:136:1
 returns-2 : tie.Need-returns-2
 returns-2 c = rw (ne-eqb _ 1 (c .before .if1 .left)) (c .may-become-root .ensures)
 

@@ -1,43 +1,37 @@
-use mathlib.Core.Path.{sym, _∙_}
 use borrow.Author.Needs.{needs}
+use mathlib.Core.Path.{sym, _∙_}
 use Rattle.automaton.proofs.outcome.Statement.{statement}
 use Rattle.automaton.proofs.outcome.Tie as tie
-use Rattle.automaton.proofs.outcome.Reads as reads
-use Rattle.automaton.proofs.outcome.Lts as lts
-use Rattle.automaton.proofs.is_moving.Reads as is-moving-reads
-use Rattle.automaton.proofs.outcome_at_rest.Reads as outcome-at-rest-reads
-use Rattle.automaton.proofs.root_count.Reads as root-count-reads
-use Rattle.upload.proofs.links.Reads as links-reads
-use Rattle.upload.proofs.nodes.Reads as nodes-reads
 
--- src/lib.rt:393:8
 is-moving-requires : tie.Need-is-moving-requires
 is-moving-requires c κs = search needs
 
--- src/lib.rt:396:25
 nodes-requires : tie.Need-nodes-requires
 nodes-requires c κs = search needs
 
--- src/lib.rt:396:48
 links-requires : tie.Need-links-requires
 links-requires c κs = search needs
 
--- src/lib.rt:396:71
 root-count-requires : tie.Need-root-count-requires
 root-count-requires c κs = search needs
 
--- src/lib.rt:396:9
 outcome-at-rest-requires : tie.Need-outcome-at-rest-requires
 outcome-at-rest-requires c κs = search needs
 
--- src/lib.rt:389:1
 returns : tie.Need-returns
 returns c = rw (sym (c .before .is-moving .ensures) ∙ c .if1 .taken)
 
--- src/lib.rt:389:1
 returns-2 : tie.Need-returns-2
 returns-2 c =
-    rw (sym (c .before .before .before .before .before .is-moving .ensures) ∙ c .before .before .before .before .if1 .left) (cc)
+    let at = c .before .before .before .before .before .before .before .before in
+    rw (
+      sym (c .before .before .before .before .before .is-moving .ensures) ∙ c .before .before .before .before .if1 .left,
+      ← c .before .root-count .ensures,
+      ← at .pre .1,
+      ← c .before .before .before .nodes .ensures .0,
+      ← c .before .before .links .ensures .0,
+    )
+    (c .outcome-at-rest .ensures)
 
 pub outcome-spec : {M : Type 1} → statement M
 outcome-spec =

@@ -1,19 +1,13 @@
 use borrow.Author.Tests.{eq-eqb, ne-eqb}
-use borrow.Author.Needs.{needs}
 use Rattle.automaton.proofs.outcome_at_rest.Statement.{statement}
 use Rattle.automaton.proofs.outcome_at_rest.Tie as tie
-use Rattle.automaton.proofs.outcome_at_rest.Reads as reads
-use Rattle.automaton.proofs.outcome_at_rest.Lts as lts
 
--- src/lib.rt:374:1
 returns : tie.Need-returns
 returns c = rw (eq-eqb _ 1 (c .if1 .taken))
 
--- src/lib.rt:374:1
 returns-2 : tie.Need-returns-2
 returns-2 c = rw (ne-eqb _ 1 (c .before .if1 .left), c .if2 .taken)
 
--- src/lib.rt:374:1
 returns-3 : tie.Need-returns-3
 returns-3 c = rw (ne-eqb _ 1 (c .before .if1 .left), c .if2 .left)
 

@@ -1,19 +1,15 @@
-use Rattle.automaton.proofs.More.{some-none, some-more, some-end, some-found}
-use Rattle.automaton.specs.Tried.{shown, linkMoves}
-use Rattle.paper.specs.Table.{tableOf}
-use Rattle.paper.specs.Upload.{linksOf}
-use Rattle.counting.specs.Count.{some}
+use borrow.Author.Needs.{needs}
+use Prim.Native.Nat.{_-_, _≤_, _<_}
 use mathlib.Core.Bool.{false}
 use mathlib.Core.Path.{_≡_, sym, _∙_}
-use Prim.Native.Nat.{ℕ, _-_, _≤_, _<_}
 use native.Mathlib.Omega.{arith}
-use borrow.Author.Needs.{needs}
+use Rattle.counting.specs.Count.{some}
+use Rattle.paper.specs.Table.{tableOf}
+use Rattle.paper.specs.Upload.{linksOf}
+use Rattle.automaton.specs.Tried.{shown, linkMoves}
+use Rattle.automaton.proofs.More.{some-none, some-more, some-end, some-found}
 use Rattle.automaton.proofs.some_link_moves.Statement.{statement}
 use Rattle.automaton.proofs.some_link_moves.Tie as tie
-use Rattle.automaton.proofs.some_link_moves.Reads as reads
-use Rattle.automaton.proofs.some_link_moves.Lts as lts
-use Rattle.automaton.proofs.link_moves.Reads as link-moves-reads
-use Rattle.upload.proofs.links.Reads as links-reads
 
 abbrev Inv-loop : tie.InvT-loop
 Inv-loop upload image m i₀ i = (i ≤ m) × (m ≡ linksOf upload) × (some i (linkMoves (tableOf upload) (shown upload image)) ≡ false)
@@ -21,19 +17,15 @@ Inv-loop upload image m i₀ i = (i ≤ m) × (m ≡ linksOf upload) × (some i 
 abbrev μ-loop : tie.MeasureT-loop
 μ-loop upload image m i₀ i = m - i
 
--- src/lib.rt:304:9
 links-requires : tie.Need-links-requires Inv-loop μ-loop
 links-requires c κs = search needs
 
--- src/lib.rt:306:5
 loop-holds : tie.Need-loop-holds Inv-loop μ-loop
 loop-holds c = (search needs, c .links .ensures .0, some-none _)
 
--- src/lib.rt:307:12
 link-moves-requires : tie.Need-link-moves-requires Inv-loop μ-loop
 link-moves-requires c κs = search needs
 
--- src/lib.rt:308:13
 returns : tie.Need-returns Inv-loop μ-loop
 returns c =
     let now = c .before .before .before .loop in
@@ -41,21 +33,17 @@ returns c =
     let below : now .i < linksOf (at .args .upload .now) = omega arith in
     sym (some-found _ _ _ below (sym (c .before .link-moves .ensures) ∙ c .if1 .taken))
 
--- src/lib.rt:310:9
 add-i : tie.Need-add-i Inv-loop μ-loop
 add-i c = search needs
 
--- src/lib.rt:306:5
 loop-less : tie.Need-loop-less Inv-loop μ-loop
 loop-less c = search needs
 
--- src/lib.rt:306:5
 loop-again : tie.Need-loop-again Inv-loop μ-loop
 loop-again c =
     let now = c .before .before .before .loop in
     (search needs, now .inv .1, some-more _ _ (now .inv .2) (sym (c .before .link-moves .ensures) ∙ c .if1 .left))
 
--- src/lib.rt:300:1
 returns-2 : tie.Need-returns-2 Inv-loop μ-loop
 returns-2 c =
     let now = c .before .loop in

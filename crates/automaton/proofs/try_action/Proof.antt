@@ -1,32 +1,23 @@
-use Rattle.automaton.proofs.Named.{tried-not}
-use Rattle.paper.specs.Actions.{reading}
 use borrow.Author.Needs.{needs}
+use Rattle.paper.specs.Actions.{reading}
+use Rattle.automaton.proofs.Named.{tried-not}
 use Rattle.automaton.proofs.try_action.Statement.{statement}
 use Rattle.automaton.proofs.try_action.Tie as tie
-use Rattle.automaton.proofs.try_action.Reads as reads
-use Rattle.automaton.proofs.try_action.Lts as lts
-use Rattle.automaton.proofs.try_link.Reads as try-link-reads
-use Rattle.automaton.proofs.try_node.Reads as try-node-reads
 
--- src/lib.rt:235:9
 try-node-requires : tie.Need-try-node-requires
 try-node-requires c κs = search needs
 
--- src/lib.rt:238:13
 try-link-requires : tie.Need-try-link-requires
 try-link-requires c κs = search needs
 
--- src/lib.rt:230:1
 returns : tie.Need-returns
 unfolding reading
 returns c = rw (c .before .if1 .taken) (c .try-node .ensures)
 
--- src/lib.rt:230:1
 returns-2 : tie.Need-returns-2
 unfolding reading
 returns-2 c = rw (c .before .before .if1 .left, c .before .if2 .taken) (c .try-link .ensures)
 
--- src/lib.rt:230:1
 returns-3 : tie.Need-returns-3
 unfolding reading
 returns-3 c = rw (c .before .if1 .left, c .if2 .left) (tried-not 9)

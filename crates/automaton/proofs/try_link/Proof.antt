@@ -1,40 +1,28 @@
-use native.Mathlib.Omega.{arith}
-use Rattle.automaton.proofs.Named.{tried-not}
 use borrow.Author.Tests.{lt-ltb, le-ltb}
+use borrow.Author.Needs.{needs}
+use mathlib.Core.Bool.{true, false, _&&_}
+use mathlib.Core.Path.{_≡_}
+use native.Mathlib.Omega.{arith}
+use lib.Dec.{ltb}
 use Rattle.paper.specs.Actions.{linkBetween}
 use Rattle.paper.specs.Table.{tableOf}
 use Rattle.paper.specs.Upload.{nodesOf, linksOf}
-use Prim.Native.Nat.{ℕ}
-use lib.Dec.{ltb, eqb}
-use mathlib.Core.Bool.{Bool, true, false, cond, _&&_}
-use mathlib.Core.Path.{_≡_, sym, ap, _∙_}
-use borrow.Author.Needs.{needs}
+use Rattle.automaton.proofs.Named.{tried-not}
 use Rattle.automaton.proofs.try_link.Statement.{statement}
 use Rattle.automaton.proofs.try_link.Tie as tie
-use Rattle.automaton.proofs.try_link.Reads as reads
-use Rattle.automaton.proofs.try_link.Lts as lts
-use Rattle.automaton.proofs.link_between.Reads as link-between-reads
-use Rattle.automaton.proofs.try_direction.Reads as try-direction-reads
-use Rattle.upload.proofs.links.Reads as links-reads
-use Rattle.upload.proofs.nodes.Reads as nodes-reads
 
--- src/lib.rt:208:9
 nodes-requires : tie.Need-nodes-requires
 nodes-requires c κs = search needs
 
--- src/lib.rt:210:13
 link-between-requires : tie.Need-link-between-requires
 link-between-requires c κs = search needs
 
--- src/lib.rt:211:16
 links-requires : tie.Need-links-requires
 links-requires c κs = search needs
 
--- src/lib.rt:212:13
 try-direction-requires : tie.Need-try-direction-requires
 try-direction-requires c κs = search needs
 
--- src/lib.rt:204:1
 returns : tie.Need-returns
 returns c =
     let at = c .before .before .before .before .before .before .before .before in
@@ -43,7 +31,6 @@ returns c =
     let link : ltb found (linksOf (at .args .upload .now)) ≡ true = lt-ltb found (linksOf (at .args .upload .now)) (omega (arith, c .before .before .links .ensures .0, c .before .before .before .link-between .ensures .0)) in
     rw (read, link, ← c .before .before .before .link-between .ensures .0) (c .try-direction .ensures)
 
--- src/lib.rt:204:1
 returns-2 : tie.Need-returns-2
 returns-2 c =
     let at = c .before .before .before .before .before .before .before in
@@ -52,7 +39,6 @@ returns-2 c =
     let link : ltb found (linksOf (at .args .upload .now)) ≡ false = le-ltb found (linksOf (at .args .upload .now)) (omega (arith, c .before .links .ensures .0, c .before .before .link-between .ensures .0)) in
     rw (read, link) (tried-not 10)
 
--- src/lib.rt:204:1
 returns-3 : tie.Need-returns-3
 returns-3 c =
     let at = c .before .before .before .before in

@@ -1,47 +1,33 @@
-use Rattle.automaton.proofs.Named.{both, tried-not, node-link, node-end}
-use Rattle.paper.specs.Upload.{nodesOf}
 use borrow.Author.Tests.{ltb-true}
-use native.Mathlib.Omega.{arith}
-use Prim.Native.Nat.{ℕ}
-use lib.Dec.{ltb, eqb}
-use mathlib.Core.Bool.{Bool, cond, _&&_, true, false}
-use mathlib.Core.Path.{_≡_, sym, ap, _∙_}
 use borrow.Author.Needs.{needs}
+use mathlib.Core.Bool.{_&&_, true, false}
+use mathlib.Core.Path.{_≡_}
+use native.Mathlib.Omega.{arith}
+use lib.Dec.{ltb, eqb}
+use Rattle.paper.specs.Upload.{nodesOf}
+use Rattle.automaton.proofs.Named.{both, tried-not, tried-node}
 use Rattle.automaton.proofs.try_node.Statement.{statement}
 use Rattle.automaton.proofs.try_node.Tie as tie
-use Rattle.automaton.proofs.try_node.Reads as reads
-use Rattle.automaton.proofs.try_node.Lts as lts
-use Rattle.automaton.proofs.node_possible.Reads as node-possible-reads
-use Rattle.automaton.proofs.refused_unless.Reads as refused-unless-reads
-use Rattle.upload.proofs.nodes.Reads as nodes-reads
 
--- src/lib.rt:175:13
 nodes-requires : tie.Need-nodes-requires
 nodes-requires c κs = search needs
 
--- src/lib.rt:177:36
 node-possible-requires : tie.Need-node-possible-requires
 node-possible-requires c κs =
     let at = c .before .before .before .before in
     let below = ltb-true (at .args .x) (c .before .nodes .result) (both (ltb (at .args .x) (c .before .nodes .result)) (eqb (at .args .y) 255) (c .if1 .taken) .0) in
     (at .pre, omega arith)
 
--- src/lib.rt:177:21
 refused-unless-requires : tie.Need-refused-unless-requires
 refused-unless-requires c κs = search needs
 
--- src/lib.rt:171:1
 returns : tie.Need-returns
 returns c =
     let at = c .before .before .before .before .before .before in
-    let read : (ltb (at .args .x) (nodesOf (at .args .upload .now)) && eqb (at .args .y) 255) ≡ true = rw (← c .before .before .before .nodes .ensures .0) (c .before .before .if1 .taken) in
-    rw read (record {
-      number = c .refused-unless .ensures ∙ ap (λ (p : Bool). cond p 0 11) (c .before .node-possible .ensures);
-      link = sym (node-link (at .args .kind) (at .args .x));
-      back = sym (node-end (at .args .kind) (at .args .x));
-    })
+    let read : (ltb (at .args .x) (nodesOf (at .args .upload .now)) && eqb (at .args .y) 255) ≡ true =
+    rw (← c .before .before .before .nodes .ensures .0) (c .before .before .if1 .taken) in
+    rw read (tried-node _ _ (at .args .kind) (at .args .x) (c .refused-unless .ensures) (c .before .node-possible .ensures))
 
--- src/lib.rt:171:1
 returns-2 : tie.Need-returns-2
 returns-2 c =
     let at = c .before .before .before .before in

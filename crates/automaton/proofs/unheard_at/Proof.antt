@@ -1,18 +1,14 @@
-use Rattle.automaton.proofs.More.{sum-more, sum-none}
-use Rattle.automaton.specs.Tried.{shown, lacking}
+use borrow.Author.Needs.{needs}
+use Prim.Native.Nat.{ℕ, _*_, _-_, _≤_}
+use mathlib.Core.Path.{_≡_, sym, ap, _∙_}
+use native.Mathlib.Omega.{arith}
+use Rattle.counting.specs.Count.{sum}
 use Rattle.paper.specs.Table.{tableOf}
 use Rattle.paper.specs.Upload.{linksOf}
-use Rattle.counting.specs.Count.{sum}
-use mathlib.Core.Path.{_≡_, sym, ap, _∙_}
-use Prim.Native.Nat.{ℕ, _+_, _*_, _-_, _≤_}
-use borrow.Author.Needs.{needs}
-use native.Mathlib.Omega.{arith}
+use Rattle.automaton.specs.Tried.{shown, lacking}
+use Rattle.automaton.proofs.More.{sum-more, sum-none}
 use Rattle.automaton.proofs.unheard_at.Statement.{statement}
 use Rattle.automaton.proofs.unheard_at.Tie as tie
-use Rattle.automaton.proofs.unheard_at.Reads as reads
-use Rattle.automaton.proofs.unheard_at.Lts as lts
-use Rattle.automaton.proofs.lacking_on.Reads as lacking-on-reads
-use Rattle.upload.proofs.links.Reads as links-reads
 
 abbrev Inv-loop : tie.InvT-loop
 Inv-loop upload image x m count₀ i₀ count i =
@@ -21,31 +17,24 @@ Inv-loop upload image x m count₀ i₀ count i =
 abbrev μ-loop : tie.MeasureT-loop
 μ-loop upload image x m count₀ i₀ count i = m - i
 
--- src/lib.rt:41:9
 links-requires : tie.Need-links-requires Inv-loop μ-loop
 links-requires c κs = search needs
 
--- src/lib.rt:44:5
 loop-holds : tie.Need-loop-holds Inv-loop μ-loop
 loop-holds c = (search needs, c .links .ensures .0, sym (sum-none _), search needs)
 
--- src/lib.rt:45:18
 lacking-on-requires : tie.Need-lacking-on-requires Inv-loop μ-loop
 lacking-on-requires c κs = search needs
 
--- src/lib.rt:45:9
 add-count : tie.Need-add-count Inv-loop μ-loop
 add-count c = search needs
 
--- src/lib.rt:46:9
 add-i : tie.Need-add-i Inv-loop μ-loop
 add-i c = search needs
 
--- src/lib.rt:44:5
 loop-less : tie.Need-loop-less Inv-loop μ-loop
 loop-less c = search needs
 
--- src/lib.rt:44:5
 loop-again : tie.Need-loop-again Inv-loop μ-loop
 loop-again c =
     let now = c .before .before .loop in
@@ -56,7 +45,6 @@ loop-again c =
       search needs,
     )
 
--- src/lib.rt:37:1
 returns : tie.Need-returns Inv-loop μ-loop
 returns c =
     let now = c .before .loop in

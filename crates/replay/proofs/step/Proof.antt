@@ -80,7 +80,7 @@ returns-3 c =
     let good = table-good (now (a .upload)) (at .before .before .table-answer .ensures) (at .if1 .left) in
     let test = sym (done .before .before .before .good-image .ensures) ∙ not-false _ (done .before .before .if2 .left) in
     let w = done .act .ensures in
-    (c .reporting .ensures ∙ step-done (now (a .upload)) (now (a .image)) (a .kind) (a .x) (a .y) _ _ good test w, step-done-left (now (a .upload)) (now (a .image)) (a .kind) (a .x) (a .y) _ _ good test w)
+    (c .reporting .ensures ∙ step-done (now (a .upload)) (now (a .image)) (a .kind) (a .x) (a .y) good test _ _ w, step-done-left (now (a .upload)) (now (a .image)) (a .kind) (a .x) (a .y) good test _ _ w)
 
 pub step-spec : {M : Type 1} → statement M
 step-spec =

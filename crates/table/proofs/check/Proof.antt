@@ -1,49 +1,37 @@
-use Prim.Native.Nat.{_+_, _*_}
+-- `check` meets its contract: each return is the refusal of the first check that refuses.
 use mathlib.Core.Bool.{false}
 use mathlib.Core.Path.{_≡_, sym, _∙_}
 use native.Mathlib.Omega.{arith}
 use lib.Dec.{ltb}
 use lib.ListN.{length}
 use borrow.Author.Tests.{lt-ltb, le-ltb, ne-eqb, not-true, not-false}
+use borrow.Author.Needs.{needs}
 use Rattle.paper.specs.Upload.{exactLength}
 use Rattle.table.specs.Checked.{HeaderPasses, checked}
 use Rattle.table.proofs.Tells.{tells-range}
 use Rattle.table.proofs.Answers.{rangeOf, refused-short, refused-range, refused-length, header-passed}
-use borrow.Author.Needs.{needs}
 use Rattle.table.proofs.check.Statement.{statement}
 use Rattle.table.proofs.check.Tie as tie
-use Rattle.table.proofs.check.Reads as reads
-use Rattle.table.proofs.check.Lts as lts
-use Rattle.table.proofs.actions.Reads as actions-reads
-use Rattle.table.proofs.in_range.Reads as in-range-reads
-use Rattle.table.proofs.links.Reads as links-reads
-use Rattle.table.proofs.links_checked.Reads as links-checked-reads
-use Rattle.table.proofs.nodes.Reads as nodes-reads
 
--- src/lib.rt:236:9
 returns : tie.Need-returns
 unfolding checked
-returns c = rw (refused-short _ (lt-ltb _ _ (c .if1 .taken)))
+returns c = rw (refused-short _ (lt-ltb (length (c .before .before .args .upload .now)) 4 (omega arith)))
 
--- src/lib.rt:238:9
 links-requires : tie.Need-links-requires
 links-requires c κs = search needs
 
--- src/lib.rt:239:9
 actions-requires : tie.Need-actions-requires
 actions-requires c κs = search needs
 
--- src/lib.rt:240:18
 nodes-requires : tie.Need-nodes-requires
 nodes-requires c κs = search needs
 
--- src/lib.rt:240:9
 in-range-requires : tie.Need-in-range-requires
 in-range-requires c κs = search needs
 
 -- the upload is not under 4 bytes
 long : (c : tie.After-in-range) → ltb (length (c .before .before .before .before .before .before .args .upload .now)) 4 ≡ false
-long c = le-ltb _ _ (c .before .before .before .before .if1 .left)
+long c = le-ltb (length (c .before .before .before .before .before .before .args .upload .now)) 4 (omega arith)
 
 -- what `in_range` was asked is asked of the upload
 range : (c : tie.After-in-range) → c .in-range .result ≡ rangeOf (c .before .before .before .before .before .before .args .upload .now)
@@ -51,56 +39,47 @@ range c =
     c .in-range .ensures
     ∙ rw (c .before .nodes .ensures .0, c .before .before .actions .ensures .0, c .before .before .before .links .ensures .0)
 
--- the length that the code works out is the exact one
-sized : (c : tie.Else2) → 4 + 2 * c .before .before .before .before .links .result + 3 * c .before .before .before .actions .result ≡ exactLength (c .before .before .before .before .before .before .before .args .upload .now)
-sized c = rw (c .before .before .before .before .links .ensures .0, c .before .before .before .actions .ensures .0)
-
 -- the header passes
 passed : (c : tie.Else3) → HeaderPasses (c .before .before .before .before .before .before .before .before .args .upload .now)
 passed c =
     record {
       range = tells-range _ .yields (sym (range (c .before .before)) ∙ not-false _ (c .before .if2 .left));
-      exact = c .if3 .left ∙ sized (c .before);
+      exact = omega arith;
     }
 
--- src/lib.rt:241:9
 returns-2 : tie.Need-returns-2
 unfolding checked
 returns-2 c =
     rw (refused-range _ (long (c .before)) (sym (range (c .before)) ∙ not-true _ (c .if2 .taken)))
 
--- src/lib.rt:243:19
 mul-if3 : tie.Need-mul-if3
 mul-if3 c = search needs
 
--- src/lib.rt:243:15
 add-if3 : tie.Need-add-if3
 add-if3 c = search needs
 
--- src/lib.rt:243:27
 mul-if3-2 : tie.Need-mul-if3-2
 mul-if3-2 c = search needs
 
--- src/lib.rt:243:15
 add-if3-2 : tie.Need-add-if3-2
 add-if3-2 c = search needs
 
--- src/lib.rt:244:9
 returns-3 : tie.Need-returns-3
 unfolding checked
 returns-3 c =
     let at = c .before .before in
-    rw (refused-length _ (long at) (sym (range at) ∙ not-false _ (c .before .if2 .left)) (ne-eqb _ _ (λ e. c .if3 .taken (e ∙ sym (sized (c .before))))))
+    let upload = at .before .before .before .before .before .before .args .upload .now in
+    let off : length upload ≡ exactLength upload → ⊥ = λ e. c .if3 .taken (omega arith) in
+    rw
+    (refused-length upload (long at) (sym (range at) ∙ not-false _ (c .before .if2 .left)) (ne-eqb _ _ off))
 
--- src/lib.rt:246:5
-links-checked-requires : tie.Need-links-checked-requires
-links-checked-requires c κs = passed c
+table-checked-requires : tie.Need-table-checked-requires
+table-checked-requires c κs = passed c
 
--- src/lib.rt:231:1
 returns-4 : tie.Need-returns-4
 unfolding checked
 returns-4 c =
-    rw (header-passed _ (passed (c .before))) (c .links-checked .ensures)
+    rw (header-passed _ (passed (c .before))) (c .table-checked .ensures)
 
 pub check-spec : {M : Type 1} → statement M
 check-spec =
@@ -117,5 +96,5 @@ check-spec =
     mul-if3-2
     add-if3-2
     returns-3
-    links-checked-requires
+    table-checked-requires
     returns-4)

@@ -1,14 +1,11 @@
+-- `label_after` meets its contract, in each arm of its test.
 use borrow.Author.Tests.{eq-eqb, ne-eqb}
 use Rattle.table.proofs.label_after.Statement.{statement}
 use Rattle.table.proofs.label_after.Tie as tie
-use Rattle.table.proofs.label_after.Reads as reads
-use Rattle.table.proofs.label_after.Lts as lts
 
--- src/lib.rt:127:1
 returns : tie.Need-returns
 returns c = rw (eq-eqb _ _ (c .if1 .taken))
 
--- src/lib.rt:127:1
 returns-2 : tie.Need-returns-2
 returns-2 c = rw (ne-eqb _ _ (c .if1 .left))
 

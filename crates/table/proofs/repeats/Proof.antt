@@ -1,17 +1,14 @@
+-- `repeats` meets its contract. The loop's invariant: found so far is that one of the links below j joins the same two nodes.
 use Prim.Native.Nat.{_≤_, _-_}
-use mathlib.Core.Path.{_≡_, refl, sym}
+use mathlib.Core.Path.{_≡_, sym}
 use native.Mathlib.Omega.{arith}
 use borrow.Author.Needs.{needs}
 use Rattle.counting.specs.Count.{some}
+use Rattle.counting.proofs.Tests.{some-empty, some-more}
 use Rattle.paper.specs.Table.{tableOf}
 use Rattle.paper.specs.Actions.{joins}
-use Rattle.table.proofs.Tests.{some-none, some-more}
 use Rattle.table.proofs.repeats.Statement.{statement}
 use Rattle.table.proofs.repeats.Tie as tie
-use Rattle.table.proofs.repeats.Reads as reads
-use Rattle.table.proofs.repeats.Lts as lts
-use Rattle.table.proofs.end.Reads as end-reads
-use Rattle.table.proofs.joins.Reads as joins-reads
 
 abbrev Inv-loop : tie.InvT-loop
 Inv-loop upload i x y found₀ j₀ found j = (j ≤ i) × (found ≡ some j (joins (tableOf upload) x y))
@@ -19,37 +16,29 @@ Inv-loop upload i x y found₀ j₀ found j = (j ≤ i) × (found ≡ some j (jo
 abbrev μ-loop : tie.MeasureT-loop
 μ-loop upload i x y found₀ j₀ found j = i - j
 
--- src/lib.rt:82:9
 end-requires : tie.Need-end-requires Inv-loop μ-loop
 end-requires c κs = search needs
 
--- src/lib.rt:83:9
 end-requires-2 : tie.Need-end-requires-2 Inv-loop μ-loop
 end-requires-2 c κs = search needs
 
--- src/lib.rt:86:5
 loop-holds : tie.Need-loop-holds Inv-loop μ-loop
-loop-holds c = (search needs, sym (some-none _))
+loop-holds c = (search needs, sym (some-empty _))
 
--- src/lib.rt:87:25
 joins-requires : tie.Need-joins-requires Inv-loop μ-loop
 joins-requires c κs = search needs
 
--- src/lib.rt:88:9
 add-j : tie.Need-add-j Inv-loop μ-loop
 add-j c = search needs
 
--- src/lib.rt:86:5
 loop-less : tie.Need-loop-less Inv-loop μ-loop
 loop-less c = search needs
 
--- src/lib.rt:86:5
 loop-again : tie.Need-loop-again Inv-loop μ-loop
 loop-again c =
     let at = c .before .before in
     (search needs, rw (at .loop .inv .1, c .joins .ensures, some-more))
 
--- src/lib.rt:78:1
 returns : tie.Need-returns Inv-loop μ-loop
 returns c =
     let at = c .before in

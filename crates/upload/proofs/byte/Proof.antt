@@ -1,21 +1,18 @@
-use borrow.Author.Needs.{needs}
+-- `byte` meets its contract: a byte of a slice is below 256.
+use mathlib.Core.Path.{refl}
 use native.Mathlib.Omega.{arith}
+use borrow.Author.Needs.{needs}
 use Rattle.upload.proofs.byte.Statement.{statement}
 use Rattle.upload.proofs.byte.Tie as tie
-use Rattle.upload.proofs.byte.Reads as reads
-use Rattle.upload.proofs.byte.Lts as lts
 
--- src/lib.rt:13:5
 shared-slice-read-result : tie.Need-shared-slice-read-result
 shared-slice-read-result c = search needs
 
--- src/lib.rt:13:5
 cast-result : tie.Need-cast-result
 cast-result c = omega (arith, c .shared-slice-known .given (c .before .args .i))
 
--- src/lib.rt:9:1
 returns : tie.Need-returns
-returns c = (search needs, omega (arith, c .shared-slice-known .given (c .before .args .i)))
+returns c = (refl, c .shared-slice-known .given (c .before .args .i) .fits)
 
 pub byte-spec : {M : Type 1} → statement M
 byte-spec = tie.close (tie.spec shared-slice-read-result cast-result returns)

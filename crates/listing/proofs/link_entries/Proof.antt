@@ -1,0 +1,43 @@
+use borrow.Author.Needs.{needs}
+use Rattle.listing.proofs.Linked.{noted-none}
+use Rattle.listing.proofs.link_entries.Statement.{statement}
+use Rattle.listing.proofs.link_entries.Tie as tie
+
+links-requires : tie.Need-links-requires
+links-requires c κs = search needs
+
+cast-m : tie.Need-cast-m
+cast-m c = search needs
+
+slice-aggregate-note-links : tie.Need-slice-aggregate-note-links
+slice-aggregate-note-links c = search needs
+
+note-links-requires : tie.Need-note-links-requires
+note-links-requires c κs =
+    let at = c .before .before .before .before .before in
+    (at .pre .0 .table, noted-none _ (at .args .x) (c .before .links .result) (c .before .links .ensures .0))
+
+slice-aggregate-link-row : tie.Need-slice-aggregate-link-row
+slice-aggregate-link-row c = search needs
+
+link-row-requires : tie.Need-link-row-requires
+link-row-requires c κs = search needs
+
+same-length : tie.Need-same-length
+same-length c = search needs
+
+returns : tie.Need-returns
+returns c = search needs
+
+pub link-entries-spec : {M : Type 1} → statement M
+link-entries-spec =
+    tie.close
+    (tie.spec
+    links-requires
+    cast-m
+    slice-aggregate-note-links
+    note-links-requires
+    slice-aggregate-link-row
+    link-row-requires
+    same-length
+    returns)
