@@ -124,6 +124,7 @@ pub record StepCounts (upload image : List ℕ) (kind x y : ℕ) : Type 0 where
   pub refused : TablePasses upload → (BadImage (tableOf upload) image → ⊥) → {number : ℕ} → ActionRefused (tableOf upload) (stateOf (tableOf upload) image) kind x y number → stepAnswer upload image kind x y ≡ reported (record { number = number; place = 0 }) 0 (tableOf upload) (stateOf (tableOf upload) image)
   pub taken : TablePasses upload → (BadImage (tableOf upload) image → ⊥) → {next : State} → ActionTaken (tableOf upload) (stateOf (tableOf upload) image) kind x y next → stepAnswer upload image kind x y ≡ reported accepted 1 (tableOf upload) next
 
+-- demand 1, but for what Calls.antt says of the functions: every call has an answer
 pub record Answers : Type 0 where
   -- the answer for one upload of a batch depends only on its own bytes, once the header is accepted and the span lies inside
   pub independent : Independent

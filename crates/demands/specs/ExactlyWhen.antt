@@ -132,11 +132,12 @@ pub record AllTaken (upload : List ℕ) : Type 0 where
   pub end : State
   pub all : Taken upload (actionsOf upload) end
 
--- a single step is action 0
+-- a single step, as action 0, is refused
 pub record StepRefused (t : Table) (s : State) (kind x y : ℕ) (number place : ℕ) : Type 0 where
   pub only : place ≡ 0
   pub refused : ActionRefused t s kind x y number
 
+-- it is taken
 pub record StepTaken (t : Table) (s : State) (kind x y : ℕ) : Type 0 where
   pub next : State
   pub taken : ActionTaken t s kind x y next
@@ -187,9 +188,11 @@ tries upload image action taken room =
 abbrev pub noAction : ℕ → ℕ → Type 0
 noAction number place = ⊥
 
+-- fresh and run are lent an image to write, and don't read the old bytes
 abbrev pub freshTries : List ℕ → List ℕ → Tries
 freshTries upload image = tries upload (WrongImageLength (tableOf upload) image) noAction (Unit {0}) ⊥
 
+-- report, list and step read the lent image
 abbrev pub reportTries : List ℕ → List ℕ → Tries
 reportTries upload image = tries upload (BadImage (tableOf upload) image) noAction (Unit {0}) ⊥
 
@@ -203,6 +206,7 @@ stepTries upload image kind x y =
     let s = stateOf t image in
     tries upload (BadImage t image) (StepRefused t s kind x y) (StepTaken t s kind x y) ⊥
 
+-- a replay is lent the upload alone
 abbrev pub replayTries : List ℕ → Tries
 replayTries upload = tries upload ⊥ (ReplayRefused upload) (AllTaken upload) ⊥
 
@@ -229,6 +233,7 @@ pub data LinesGround (batch buffer : List ℕ) : ℕ → ℕ → Type 0 where
 abbrev pub Exactly : Answer → (ℕ → ℕ → Type 0) → Type 0
 Exactly answer G = (number place : ℕ) → Given answer number place ↔ G number place
 
+-- the table of refusals, for every call
 pub record ExactlyWhen : Type 0 where
   pub fresh : (upload image : List ℕ) → Exactly (freshAnswer upload image) (Ground (freshTries upload image))
   pub run : (upload image : List ℕ) → Exactly (runAnswer upload image) (Ground (freshTries upload image))
