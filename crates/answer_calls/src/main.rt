@@ -11,7 +11,9 @@ fn call(
     match which {
         1 => replay::fresh(upload, image),
         2 => replay::report(upload, image),
+        3 => replay::list(upload, image, buffer),
         4 => replay::step(upload, image, kind, x, y),
+        5 => replay::run(upload, image),
         _ => replay::replay(upload),
     }
 }

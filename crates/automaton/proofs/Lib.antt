@@ -3,3 +3,4 @@ pub mod More
 pub mod Named
 pub mod Taken
 pub mod Moves
+pub mod Unique

@@ -14,8 +14,8 @@ ghost use Rattle.marks.specs.Lent.{Lent};
 ghost use Rattle.automaton.specs.Tried.{shown, lacks, lacking, linkMoves, TriedAs, Reported};
 
 // How many directions into a node lack child.
-pub struct Unheard {
-    pub count: usize,
+struct Unheard {
+    count: usize,
 }
 
 // The direction of link i goes to x and lacks child.
@@ -36,7 +36,7 @@ fn lacking_on(upload: &[u8], image: &[u8], x: usize, i: usize) -> usize
 }
 
 // How many directions into x lack child.
-pub fn unheard_at(upload: &[u8], image: &[u8], x: usize) -> Unheard
+fn unheard_at(upload: &[u8], image: &[u8], x: usize) -> Unheard
     requires { ⌜ Lent (now upload) (now image) ⌝ }
     ensures { λ r. ⌜ (r .count ≡ unheard (tableOf (now (upload .entry))) (shown (now (upload .entry)) (now (image .entry))) x) × (r .count ≤ 252) ⌝ }
 {
@@ -59,7 +59,7 @@ pub fn end_node(upload: &[u8], i: usize, second: bool) -> usize
 }
 
 // Kind 1 is possible at node x.
-pub fn may_know_children(upload: &[u8], image: &[u8], x: usize) -> bool
+fn may_know_children(upload: &[u8], image: &[u8], x: usize) -> bool
     requires { ⌜ Lent (now upload) (now image) × (x < nodesOf (now upload)) ⌝ }
     ensures { λ r. ⌜ r ≡ possible (tableOf (now (upload .entry))) (shown (now (upload .entry)) (now (image .entry))) (childrenKnown x) ⌝ }
 {
@@ -67,7 +67,7 @@ pub fn may_know_children(upload: &[u8], image: &[u8], x: usize) -> bool
 }
 
 // Kind 2 is possible on a direction of link i.
-pub fn may_add_child(upload: &[u8], image: &[u8], i: usize, back: bool) -> bool
+fn may_add_child(upload: &[u8], image: &[u8], i: usize, back: bool) -> bool
     requires { ⌜ Lent (now upload) (now image) × (i < linksOf (now upload)) ⌝ }
     ensures { λ r. ⌜ r ≡ possible (tableOf (now (upload .entry))) (shown (now (upload .entry)) (now (image .entry))) (addChild i back) ⌝ }
 {
@@ -76,7 +76,7 @@ pub fn may_add_child(upload: &[u8], image: &[u8], i: usize, back: bool) -> bool
 }
 
 // Kind 3 is possible on a direction of link i.
-pub fn may_acknowledge(upload: &[u8], image: &[u8], i: usize, back: bool) -> bool
+fn may_acknowledge(upload: &[u8], image: &[u8], i: usize, back: bool) -> bool
     requires { ⌜ Lent (now upload) (now image) × (i < linksOf (now upload)) ⌝ }
     ensures { λ r. ⌜ r ≡ possible (tableOf (now (upload .entry))) (shown (now (upload .entry)) (now (image .entry))) (acknowledge i back) ⌝ }
 {
@@ -85,7 +85,7 @@ pub fn may_acknowledge(upload: &[u8], image: &[u8], i: usize, back: bool) -> boo
 }
 
 // Kind 4 is possible on a direction of link i.
-pub fn may_resolve(upload: &[u8], image: &[u8], i: usize, back: bool) -> bool
+fn may_resolve(upload: &[u8], image: &[u8], i: usize, back: bool) -> bool
     requires { ⌜ Lent (now upload) (now image) × (i < linksOf (now upload)) ⌝ }
     ensures { λ r. ⌜ r ≡ possible (tableOf (now (upload .entry))) (shown (now (upload .entry)) (now (image .entry))) (resolve i back) ⌝ }
 {
@@ -94,7 +94,7 @@ pub fn may_resolve(upload: &[u8], image: &[u8], i: usize, back: bool) -> bool
 }
 
 // Kind 5 is possible at node x.
-pub fn may_become_root(upload: &[u8], image: &[u8], x: usize) -> bool
+fn may_become_root(upload: &[u8], image: &[u8], x: usize) -> bool
     requires { ⌜ Lent (now upload) (now image) × (x < nodesOf (now upload)) ⌝ }
     ensures { λ r. ⌜ r ≡ possible (tableOf (now (upload .entry))) (shown (now (upload .entry)) (now (image .entry))) (becomeRoot x) ⌝ }
 {
@@ -119,7 +119,7 @@ fn joins_at(upload: &[u8], x: usize, y: usize, i: usize) -> bool
 }
 
 // The link that joins x and y, m where none does.
-pub fn link_between(upload: &[u8], x: usize, y: usize) -> usize
+fn link_between(upload: &[u8], x: usize, y: usize) -> usize
     requires { ⌜ Accepted (now upload) ⌝ }
     ensures { λ r. ⌜ (r ≡ linkBetween (tableOf (now (upload .entry))) x y) × (r ≤ linksOf (now (upload .entry))) ⌝ }
 {

@@ -139,7 +139,7 @@ fn message_byte(message: u8, k: u8) -> u8
 }
 
 // Kind 5: x is root.
-pub fn become_root(upload: &[u8], image: &mut [u8], x: usize)
+fn become_root(upload: &[u8], image: &mut [u8], x: usize)
     requires { ⌜ Lent (now upload) (now image) × (sound (tableOf (now upload)) (now image) ≡ true) × (x < nodesOf (now upload)) ⌝ }
     ensures { λ _. ⌜ now (image .exit) ≡ imageOf (tableOf (now (upload .entry))) (effect (tableOf (now (upload .entry))) (stateOf (tableOf (now (upload .entry))) (now (image .entry))) (becomeRoot x)) ⌝ }
 {
@@ -147,7 +147,7 @@ pub fn become_root(upload: &[u8], image: &mut [u8], x: usize)
 }
 
 // Kind 2: the direction gets child, and its message is removed.
-pub fn add_child(upload: &[u8], image: &mut [u8], i: usize, back: bool)
+fn add_child(upload: &[u8], image: &mut [u8], i: usize, back: bool)
     requires { ⌜ Lent (now upload) (now image) × (sound (tableOf (now upload)) (now image) ≡ true) × (i < linksOf (now upload)) ⌝ }
     ensures { λ _. ⌜ now (image .exit) ≡ imageOf (tableOf (now (upload .entry))) (effect (tableOf (now (upload .entry))) (stateOf (tableOf (now (upload .entry))) (now (image .entry))) (addChild i back)) ⌝ }
 {
@@ -156,7 +156,7 @@ pub fn add_child(upload: &[u8], image: &mut [u8], i: usize, back: bool)
 }
 
 // Kind 3: the target contends if the message was a request, else not; the message is removed.
-pub fn acknowledge(upload: &[u8], image: &mut [u8], i: usize, back: bool)
+fn acknowledge(upload: &[u8], image: &mut [u8], i: usize, back: bool)
     requires { ⌜ Lent (now upload) (now image) × (sound (tableOf (now upload)) (now image) ≡ true) × (i < linksOf (now upload)) ⌝ }
     ensures { λ _. ⌜ now (image .exit) ≡ imageOf (tableOf (now (upload .entry))) (effect (tableOf (now (upload .entry))) (stateOf (tableOf (now (upload .entry))) (now (image .entry))) (acknowledge i back)) ⌝ }
 {
@@ -168,7 +168,7 @@ pub fn acknowledge(upload: &[u8], image: &mut [u8], i: usize, back: bool)
 }
 
 // Kind 4: the direction gets child; neither of its ends contends.
-pub fn resolve(upload: &[u8], image: &mut [u8], i: usize, back: bool)
+fn resolve(upload: &[u8], image: &mut [u8], i: usize, back: bool)
     requires { ⌜ Lent (now upload) (now image) × (sound (tableOf (now upload)) (now image) ≡ true) × (i < linksOf (now upload)) ⌝ }
     ensures { λ _. ⌜ now (image .exit) ≡ imageOf (tableOf (now (upload .entry))) (effect (tableOf (now (upload .entry))) (stateOf (tableOf (now (upload .entry))) (now (image .entry))) (resolve i back)) ⌝ }
 {
@@ -202,7 +202,7 @@ fn send_on(upload: &[u8], image: &mut [u8], x: usize, i: usize)
 }
 
 // Kind 1: x stops waiting, and sends on each direction out of it.
-pub fn children_known(upload: &[u8], image: &mut [u8], x: usize)
+fn children_known(upload: &[u8], image: &mut [u8], x: usize)
     requires { ⌜ Lent (now upload) (now image) × (sound (tableOf (now upload)) (now image) ≡ true) × (x < nodesOf (now upload)) ⌝ }
     ensures { λ _. ⌜ now (image .exit) ≡ imageOf (tableOf (now (upload .entry))) (effect (tableOf (now (upload .entry))) (stateOf (tableOf (now (upload .entry))) (now (image .entry))) (childrenKnown x)) ⌝ }
 {

@@ -1,3 +1,4 @@
 pub mod Written
 pub mod Linked
 pub mod Entries
+pub mod Unique

@@ -210,7 +210,7 @@ fn entries_of(upload: &[u8], image: &[u8], out: &mut [u8], count: usize, kind: u
 }
 
 // Writes the whole list as far as there is room, and answers how many steps it has.
-pub fn list_into(upload: &[u8], image: &[u8], out: &mut [u8]) -> usize
+fn list_into(upload: &[u8], image: &[u8], out: &mut [u8]) -> usize
     requires { ⌜ Lent (now upload) (now image) ⌝ }
     ensures { λ r. ⌜ Wrote (now (out .entry)) 0 (listed (tableOf (now (upload .entry))) (shown (now (upload .entry)) (now (image .entry)))) (now (out .exit)) r × (r ≤ 19845) ⌝ }
 {

@@ -1,12 +1,12 @@
 -- What trying one action on a lent image comes to: where the action can be taken, and where it is refused.
-use Prim.Native.Nat.{ℕ, _≤_, _<_}
-use mathlib.Core.Bool.{Bool, true, false, cond, false≢true, _&&_, _||_}
+use Prim.Native.Nat.{ℕ, _≤_}
+use mathlib.Core.Bool.{Bool, true, false, cond, false≢true, _&&_}
 use mathlib.Core.Path.{_≡_, refl, sym, ap, subst, _∙_}
 use mathlib.Core.Logic.{_⊎_, inl, inr, ⊎-elim}
 use mathlib.Core.List.{List}
 use native.Mathlib.Omega.{arith}
 use lib.Dec.{eqb, leb, ltb}
-use borrow.Author.Tests.{eqb-true, leb-true, eq-eqb, ne-eqb, le-leb}
+use borrow.Author.Tests.{eqb-true, leb-true, eq-eqb, ne-eqb}
 use Rattle.paper.specs.Table.{Table, tableOf}
 use Rattle.paper.specs.State.{State}
 use Rattle.paper.specs.Steps.{Step, possible, effect}
@@ -18,7 +18,7 @@ use Rattle.image.specs.Taken.{stepOf, Named, Holds}
 use Rattle.image.proofs.Kept.{step-holds}
 use Rattle.automaton.specs.Tried.{TriedAs}
 use Rattle.automaton.specs.declared.Tried.{Tried}
-use Rattle.automaton.proofs.Taken.{AtNode, OnLink, acts-at-node, acts-on-link}
+use Rattle.automaton.proofs.Taken.{acts-at-node, acts-on-link}
 use Rattle.replay.specs.Taken.{nextState, Taken}
 
 -- an action that can be taken: the step by its kind, in the table, possible

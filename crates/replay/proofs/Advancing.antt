@@ -1,6 +1,6 @@
 -- The first listed step can be taken, and the runner takes it.
 use Prim.Native.Nat.{ℕ, suc, _≤_}
-use mathlib.Core.Bool.{Bool, true, false, false≢true}
+use mathlib.Core.Bool.{true, false, false≢true}
 use mathlib.Core.Path.{_≡_, refl, sym, ap, subst, subst⁻¹, _∙_}
 use mathlib.Core.Logic.{inl}
 use mathlib.Core.List.{List, [], _∷_}
@@ -15,13 +15,13 @@ use Rattle.paper.specs.Meanings.{Stands, three, Ascending}
 use Rattle.paper.specs.Runner.{runFrom}
 use Rattle.paper.proofs.Listed.{listed-exactly, listed-ascending}
 use Rattle.marks.specs.Lent.{Lent}
-use Rattle.image.specs.Taken.{stepOf, Holds}
+use Rattle.image.specs.Taken.{stepOf}
 use Rattle.image.proofs.Kept.{step-holds}
 use Rattle.automaton.specs.Tried.{linkRead, endRead, TriedAs}
 use Rattle.automaton.specs.declared.Tried.{Tried}
 use Rattle.first.specs.Leads.{firstOf}
 use Rattle.first.specs.declared.First.{First}
-use Rattle.replay.specs.Running.{ranTo, Advanced}
+use Rattle.replay.specs.Running.{Advanced}
 use Rattle.replay.proofs.Acted.{Acts, acts}
 use Rattle.replay.proofs.Folds.{run-stops, run-goes-on}
 
@@ -55,6 +55,11 @@ module _ (t : Table) (s : State) (bytes : t .nodes ≤ 255) where
   leading r e f =
       subst⁻¹ (Leading t s) e
       (leading-of (listed t s) refl (listed-ascending t s bytes) (sym (ap (λ (w : First). w .found) e) ∙ f))
+
+-- the head of the list can be taken
+pub head-taken : (t : Table) (s : State) → t .nodes ≤ 255 → (kind : ℕ) (rest : List ℕ) → listed t s ≡ kind ∷ rest → refusedBy t s (reading t kind (byteAt rest 0) (byteAt rest 1)) ≡ 0
+head-taken t s bytes kind rest e =
+    leading-of t s bytes (kind ∷ rest) e (subst (Ascending (three 1 0 0) (three 6 0 0)) e (listed-ascending t s bytes)) refl .can
 
 nothing-of : (t : Table) (l : List ℕ) → firstOf t l .found ≡ false → l ≡ []
 nothing-of t [] f = refl

@@ -1,18 +1,16 @@
 -- What each call answers and leaves, case by case: the table refused, the image refused, and done.
 use Prim.Native.Nat.{ℕ}
-use mathlib.Core.Bool.{Bool, true, false, cond, false≢true, _&&_}
+use mathlib.Core.Bool.{Bool, true, false, false≢true, _&&_}
 use mathlib.Core.Path.{_≡_, refl, sym, ap, _∙_}
-use mathlib.Core.List.{List, [], _∷_}
+use mathlib.Core.List.{List}
 use lib.ListN.{length}
-use lib.Dec.{eqb}
 use borrow.Author.Tests.{eqb-true}
 use Rattle.paper.specs.declared.Answer.{Answer}
-use Rattle.paper.specs.Table.{Table, tableOf}
-use Rattle.paper.specs.State.{State, fresh}
+use Rattle.paper.specs.Table.{tableOf}
+use Rattle.paper.specs.State.{fresh}
 use Rattle.paper.specs.Image.{imageLength, imageOf, stateOf, fits, sound}
-use Rattle.paper.specs.Actions.{reading, refusedBy}
-use Rattle.paper.specs.Refusals.{Refusal, accepted, first, refusal, tableRefusal, imageRefusal, lengthRefusal, roomRefusal}
-use Rattle.paper.specs.Calls.{refusedWith, reported, answered, left, trying, freshRefusal, freshAnswer, freshImage, reportRefusal, reportAnswer}
+use Rattle.paper.specs.Refusals.{Refusal, accepted, refusal, tableRefusal, imageRefusal, lengthRefusal}
+use Rattle.paper.specs.Calls.{refusedWith, reported, answered, left, freshAnswer, freshImage, reportAnswer}
 use Rattle.table.proofs.Laws.{accepted-laws}
 use Rattle.marks.specs.Lent.{Lent}
 use Rattle.replay.proofs.Order.{answered-table, left-table, answered-image, left-image, refusal-behind, twelve}

@@ -1,14 +1,13 @@
 -- What the reader's answer says of the table's refusal.
 use Prim.Native.Nat.{ℕ}
 use mathlib.Core.Bool.{Bool, true, false}
-use mathlib.Core.Path.{_≡_, refl, sym, ap, _∙_}
-use mathlib.Core.List.{List, [], _∷_}
+use mathlib.Core.Path.{_≡_, refl}
+use mathlib.Core.List.{List}
 use native.Mathlib.Omega.{arith}
 use borrow.Author.Tests.{eqb-true}
 use lib.Dec.{eqb}
 use Rattle.paper.specs.Upload.{nodesOf, linksOf, actionsOf}
-use Rattle.paper.specs.Refusals.{Refusal, accepted, tableRefusal}
-use Rattle.table.specs.declared.Checked.{Checked}
+use Rattle.paper.specs.Refusals.{accepted, tableRefusal}
 use Rattle.table.specs.declared.Checked.the-variants.{Accepted, Refused}
 use Rattle.table.specs.Checked.{pick, checked}
 use Rattle.replay.proofs.Order.{table-accepted}

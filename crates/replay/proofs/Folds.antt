@@ -1,16 +1,14 @@
 -- One action of a replay, and one step of the runner.
-use Prim.Native.Nat.{ℕ, zero, suc}
-use mathlib.Core.Bool.{cond}
-use mathlib.Core.Path.{_≡_, refl, sym, ap}
+use Prim.Native.Nat.{ℕ, suc}
+use mathlib.Core.Path.{_≡_}
 use mathlib.Core.List.{List, [], _∷_}
-use lib.Dec.{eqb}
 use borrow.Author.Tests.{eq-eqb, ne-eqb}
 use Rattle.paper.specs.Upload.{byteAt}
 use Rattle.paper.specs.Table.{Table, tableOf}
 use Rattle.paper.specs.State.{State}
 use Rattle.paper.specs.Actions.{reading, refusedBy, stateAfter, listed}
-use Rattle.paper.specs.Runner.{Ran, runFrom}
-use Rattle.paper.specs.Calls.{Replayed, actionOf, replayFrom}
+use Rattle.paper.specs.Runner.{runFrom}
+use Rattle.paper.specs.Calls.{actionOf, replayFrom}
 
 module _ (upload : List ℕ) (s : State) (i k : ℕ) where
   -- an action that is refused ends the replay before it

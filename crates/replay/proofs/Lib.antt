@@ -12,3 +12,5 @@ pub mod Listed
 pub mod Running
 pub mod Singles
 pub mod Advancing
+pub mod Inside
+pub mod Unread

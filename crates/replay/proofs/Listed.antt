@@ -1,14 +1,13 @@
 -- What a list answers and leaves, case by case.
 use Prim.Native.Nat.{ℕ, _*_, _/_, _≤_, _<_}
-use mathlib.Core.Bool.{Bool, true, false, cond, _&&_}
-use mathlib.Core.Path.{_≡_, refl, sym, ap, _∙_}
+use mathlib.Core.Bool.{Bool, true, false, _&&_}
+use mathlib.Core.Path.{_≡_, ap, _∙_}
 use mathlib.Core.List.{List, [], _∷_}
 use native.Mathlib.Omega.{arith}
 use lib.ListN.{length}
 use lib.Dec.{ltb}
 use borrow.Author.Tests.{lt-ltb, le-ltb}
-use Rattle.paper.specs.Table.{Table, tableOf}
-use Rattle.paper.specs.State.{State}
+use Rattle.paper.specs.Table.{tableOf}
 use Rattle.paper.specs.Image.{stateOf, fits, sound}
 use Rattle.paper.specs.Refusals.{Refusal, accepted, given, first, tableRefusal, imageRefusal, roomRefusal}
 use Rattle.paper.specs.Calls.{refusedWith, reported, answered, left, over, listOfImage, listRefusal, listAnswer, listBuffer}

@@ -10,7 +10,7 @@ use borrow.Author.Tests.{eq-eqb, ne-eqb, le-leb, lt-leb}
 use native.Mathlib.Decide.{decLe}
 use Rattle.paper.specs.Upload.{nodesOf, linksOf, actionsOf, exactLength}
 use Rattle.paper.specs.Table.{Table, tableOf, onePiece}
-use Rattle.paper.specs.Refusals.{Refusal, accepted, given, first, inRange, namesNoNode, joinsItself, repeats, linkRefusal, linksRefusal, Tried, refusal, tableRefusal}
+use Rattle.paper.specs.Refusals.{Refusal, accepted, given, first, inRange, namesNoNode, joinsItself, repeats, linkRefusal, linksRefusal, refusal, tableRefusal}
 use Rattle.paper.specs.State.{State}
 use Rattle.paper.specs.Calls.{refusedWith, answered, left, trying}
 

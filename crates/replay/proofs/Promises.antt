@@ -1,14 +1,13 @@
 -- The promises hold.
-use Prim.Native.Nat.{ℕ, zero, suc, _+_, _≤_, _<_}
-use mathlib.Core.Bool.{Bool, true, false, not, cond, false≢true, _&&_, Bool·beq}
-use mathlib.Core.Path.{_≡_, refl, sym, ap, subst, _∙_}
+use Prim.Native.Nat.{ℕ, _<_}
+use mathlib.Core.Bool.{Bool, true, false, not, cond, _&&_, Bool·beq}
+use mathlib.Core.Path.{_≡_, refl, ap, _∙_}
 use mathlib.Core.Logic.{_⊎_, inl, inr, ⊎-elim, _↔_}
-use mathlib.Core.List.{List, [], _∷_}
+use mathlib.Core.List.{[]}
 use native.Mathlib.Omega.{arith}
-use native.Mathlib.Decide.{ℕ-discrete, decLt}
 use lib.Dec.{eqb, ltb}
-use borrow.Author.Tests.{eq-eqb, ne-eqb, eqb-true, lt-ltb, ltb-true}
-use Rattle.paper.specs.Table.{Table, tableOf, source, target}
+use borrow.Author.Tests.{eq-eqb, eqb-true, lt-ltb, ltb-true}
+use Rattle.paper.specs.Table.{Table, source, target}
 use Rattle.paper.specs.State.{Message, State, none, request, acknowledgement}
 use Rattle.paper.specs.Steps.{Step, childrenKnown, addChild, acknowledge, resolve, becomeRoot, possible, effect, at, atDirection, outOf, sends, isRequest}
 use Rattle.paper.specs.Published.{Edge, Pre, queue, queues, actionOf}
@@ -16,7 +15,7 @@ use Rattle.paper.specs.Meanings.{SoundMarks}
 use Rattle.paper.proofs.Published.{as-published}
 use Rattle.paper.proofs.Tests.{and-left, and-right, eqb-same}
 use Rattle.paper.proofs.Changes.{at-away, at-elim}
-use Rattle.replay.specs.Promises.{AtMostOneLacks, AllHave, Possible, SameButDirection, ChildrenKnown, AddChild, Acknowledge, Resolve, BecomeRoot, Effect}
+use Rattle.replay.specs.Promises.{Possible, SameButDirection, Effect}
 
 empty-queue : (m : Message) → queue m ≡ [] → m ≡ none
 empty-queue none e = refl

@@ -2,17 +2,17 @@
 use Prim.Native.Nat.{ℕ, zero, suc, _≤_}
 use native.Mathlib.Omega.{arith}
 use lib.ListN.{length, take, length-take}
-use mathlib.Core.Bool.{Bool, true, false, cond, false≢true}
-use mathlib.Core.Path.{_≡_, refl, sym, ap, subst⁻¹, _∙_}
+use mathlib.Core.Bool.{Bool, true, false}
+use mathlib.Core.Path.{_≡_, refl, ap, subst⁻¹, _∙_}
 use mathlib.Core.Logic.{inl}
-use mathlib.Core.List.{List, [], _∷_}
+use mathlib.Core.List.{List}
 use lib.Dec.{eqb}
-use borrow.Author.Tests.{eq-eqb, eqb-true, eqb-false}
+use borrow.Author.Tests.{eqb-true, eqb-false}
 use Rattle.paper.specs.Upload.{byteAt, actionsOf, actionAt}
 use Rattle.paper.specs.Table.{tableOf}
 use Rattle.paper.specs.State.{State, fresh}
 use Rattle.paper.specs.Actions.{refusedBy, stateAfter}
-use Rattle.paper.specs.Refusals.{Refusal, accepted, first, tableRefusal}
+use Rattle.paper.specs.Refusals.{Refusal, accepted, tableRefusal}
 use Rattle.paper.specs.Calls.{refusedWith, reported, answered, Replayed, actionOf, replayFrom, replayed, replayBehind, replayAnswer}
 use Rattle.replay.proofs.Order.{table-accepted, answered-table}
 use Rattle.replay.proofs.Acted.{OfAction, of-action}

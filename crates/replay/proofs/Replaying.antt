@@ -1,7 +1,7 @@
 -- A replay on a lent image, action by action.
-use Prim.Native.Nat.{ℕ, zero, suc, _+_, _-_, _≤_, _<_}
-use mathlib.Core.Bool.{Bool, true, false}
-use mathlib.Core.Path.{_≡_, refl, sym, ap, subst, _∙_}
+use Prim.Native.Nat.{ℕ, suc, _+_, _-_, _<_}
+use mathlib.Core.Bool.{true}
+use mathlib.Core.Path.{_≡_, sym, ap, _∙_}
 use mathlib.Core.List.{List}
 use native.Mathlib.Omega.{arith}
 use native.Mathlib.Numerals.{add-one}
@@ -15,7 +15,6 @@ use Rattle.paper.specs.Actions.{refusedBy, stateAfter}
 use Rattle.paper.specs.Calls.{Replayed, actionOf, replayFrom, replayed}
 use Rattle.paper.proofs.Images.{image-of-state}
 use Rattle.marks.specs.Lent.{Lent}
-use Rattle.image.specs.Taken.{Holds}
 use Rattle.image.proofs.Kept.{fresh-holds}
 use Rattle.replay.specs.Taken.{Taken}
 use Rattle.replay.specs.Replaying.{cameTo, ReplayedTo}

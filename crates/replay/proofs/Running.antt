@@ -1,18 +1,17 @@
 -- The runner on a lent image, step by step, and what a run answers and leaves.
-use Prim.Native.Nat.{ℕ, zero, suc, _+_, _-_, _≤_, _<_}
+use Prim.Native.Nat.{ℕ, suc, _+_, _-_, _≤_, _<_}
 use mathlib.Core.Bool.{Bool, true, false}
-use mathlib.Core.Path.{_≡_, refl, sym, ap, _∙_}
+use mathlib.Core.Path.{_≡_, sym, ap, _∙_}
 use mathlib.Core.List.{List}
 use native.Mathlib.Omega.{arith}
 use native.Mathlib.Numerals.{add-one}
 use Rattle.paper.specs.Table.{tableOf}
-use Rattle.paper.specs.State.{State, fresh}
+use Rattle.paper.specs.State.{fresh}
 use Rattle.paper.specs.Image.{stateOf, imageOf, fits, sound}
 use Rattle.paper.specs.Runner.{Ran, runFrom, longest, runner}
 use Rattle.paper.specs.Refusals.{Refusal, accepted, tableRefusal, lengthRefusal}
-use Rattle.paper.specs.Calls.{refusedWith, reported, answered, left, freshRefusal, runAnswer, runImage}
+use Rattle.paper.specs.Calls.{refusedWith, reported, answered, left, runAnswer, runImage}
 use Rattle.marks.specs.Lent.{Lent}
-use Rattle.image.specs.Taken.{Holds}
 use Rattle.image.proofs.Kept.{fresh-holds}
 use Rattle.replay.specs.Running.{ranTo, Advanced, RanTo}
 use Rattle.replay.proofs.Order.{answered-table, left-table, answered-image, left-image, refusal-behind, twelve}

@@ -1,23 +1,20 @@
 -- A single step follows the table, and a replay is its single steps, one after another.
 use Prim.Native.Nat.{ℕ, zero, suc, _+_, _≤_, _<_}
-use mathlib.Core.Bool.{Bool, true, false, cond, _&&_}
+use mathlib.Core.Bool.{Bool, true, cond, _&&_}
 use mathlib.Core.Path.{_≡_, refl, sym, ap, subst, subst⁻¹, _∙_}
-use mathlib.Core.Logic.{_↔_}
 use mathlib.Core.List.{List}
 use native.Mathlib.Omega.{arith}
 use native.Mathlib.Decide.{ℕ-discrete}
-use lib.Dec.{eqb}
 use lib.ListN.{length}
 use borrow.Author.Tests.{eq-eqb, ne-eqb}
 use Rattle.paper.specs.declared.Answer.{Answer}
 use Rattle.paper.specs.Upload.{byteAt, actionsOf, actionAt}
-use Rattle.paper.specs.Table.{Table, tableOf}
+use Rattle.paper.specs.Table.{tableOf}
 use Rattle.paper.specs.State.{State, fresh}
 use Rattle.paper.specs.Steps.{Step, possible, effect}
 use Rattle.paper.specs.Image.{stateOf, imageOf, imageLength, fits, sound}
 use Rattle.paper.specs.Actions.{Reading, names, reading, nodeStep, linkStep, directionFrom, refusedBy, stateAfter}
-use Rattle.paper.specs.Meanings.{kindOf, firstOf, secondOf}
-use Rattle.paper.specs.Refusals.{accepted, tableRefusal}
+use Rattle.paper.specs.Refusals.{tableRefusal}
 use Rattle.paper.specs.Calls.{freshImage, stepState, stepAnswer, stepImage, actionOf, Replayed, replayFrom, replayed, replayAnswer}
 use Rattle.paper.proofs.Tests.{and-both}
 use Rattle.paper.proofs.Images.{sound-marks}
@@ -25,10 +22,9 @@ use Rattle.paper.proofs.Kept.{possible-taken}
 use Rattle.paper.proofs.Changes.{possible-in-table}
 use Rattle.paper.proofs.Readings.{Read, at-node, on-link, not-read, read, read-once, read-step}
 use Rattle.table.proofs.Laws.{accepted-laws}
-use Rattle.marks.specs.Lent.{Lent}
 use Rattle.image.specs.Taken.{Holds}
 use Rattle.image.proofs.Kept.{step-holds, fresh-holds}
-use Rattle.replay.specs.Promises.{Effect, Allowed, FollowsTable, singleRefusal, single, singles, IsSingles}
+use Rattle.replay.specs.Promises.{Effect, Allowed, FollowsTable, singleRefusal, singles, IsSingles}
 use Rattle.replay.proofs.Answers.{lent-here, lent-fits, sound-here, fresh-done-left}
 use Rattle.replay.proofs.Acted.{next-taken, next-refused}
 use Rattle.replay.proofs.Stepped.{step-answer, step-left}

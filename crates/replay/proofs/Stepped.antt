@@ -1,5 +1,5 @@
 -- What a step answers and leaves, case by case.
-use Prim.Native.Nat.{ℕ, _≤_}
+use Prim.Native.Nat.{ℕ}
 use mathlib.Core.Bool.{Bool, true, false, cond, _&&_}
 use mathlib.Core.Path.{_≡_, refl, sym, ap, _∙_}
 use mathlib.Core.Logic.{inl, inr}
@@ -9,7 +9,6 @@ use borrow.Author.Tests.{eq-eqb, ne-eqb, le-leb}
 use native.Mathlib.Omega.{arith}
 use native.Mathlib.Decide.{ℕ-discrete}
 use Rattle.counting.specs.Count.{bit}
-use Rattle.paper.specs.declared.Answer.{Answer}
 use Rattle.paper.specs.Table.{Table, tableOf}
 use Rattle.paper.specs.State.{State}
 use Rattle.paper.specs.Image.{imageOf, stateOf, fits, sound}

@@ -1,16 +1,17 @@
--- What the calls promise, in plain words over marks: the table of steps, and a replay as single steps one after another.
+-- What the calls promise in plain words: the table of steps over marks, a replay as its single steps, and that no other call reads an action.
 use Prim.Native.Nat.{ℕ, zero, suc, _+_, _≤_, _<_}
 use mathlib.Core.Bool.{Bool, true, false, not}
 use mathlib.Core.Path.{_≡_}
 use mathlib.Core.Logic.{_⊎_, _↔_}
 use mathlib.Core.List.{List}
-use Rattle.paper.specs.Upload.{byteAt, actionsOf, actionAt}
+use lib.ListN.{length}
+use Rattle.paper.specs.Upload.{byteAt, linksOf, actionsOf, linkAt, actionAt}
 use Rattle.paper.specs.Table.{Table, tableOf, source, target}
 use Rattle.paper.specs.State.{State, none, request, acknowledgement}
 use Rattle.paper.specs.Steps.{Step, childrenKnown, addChild, acknowledge, resolve, becomeRoot}
 use Rattle.paper.specs.Image.{stateOf, imageOf, fits, sound}
 use Rattle.paper.specs.Meanings.{kindOf, firstOf, secondOf}
-use Rattle.paper.specs.Calls.{freshImage, stepAnswer, stepImage, replayed, replayAnswer}
+use Rattle.paper.specs.Calls.{freshAnswer, freshImage, reportAnswer, listAnswer, listBuffer, stepAnswer, stepImage, runAnswer, runImage, replayed, replayAnswer}
 
 -- of any two directions into x, one has child or they are the same: at most one lacks it
 abbrev pub AtMostOneLacks : Table → State → ℕ → Type 0
@@ -158,3 +159,20 @@ pub record IsSingles (upload begin : List ℕ) : Type 0 where
   pub most : replayed upload .steps ≤ actionsOf upload
   pub stopped : replayed upload .steps < actionsOf upload → (replayAnswer upload .refusal ≡ singleRefusal upload (singles upload begin (replayed upload .steps)) (replayed upload .steps)) × (replayAnswer upload .refusal ≡ 0 → ⊥)
   pub all : replayed upload .steps ≡ actionsOf upload → replayAnswer upload .refusal ≡ 0
+
+-- two uploads of one length that differ only in the bytes of their actions
+pub record SameTable (one other : List ℕ) : Type 0 where
+  pub size : length one ≡ length other
+  pub bytes : (j : ℕ) → j < linkAt (linksOf one) → byteAt one j ≡ byteAt other j
+
+-- every call but a replay answers the same of both, and leaves the same bytes
+pub record ActionsUnread (one other : List ℕ) : Type 0 where
+  pub fresh : (image : List ℕ) → freshAnswer one image ≡ freshAnswer other image
+  pub fresh-image : (image : List ℕ) → freshImage one image ≡ freshImage other image
+  pub report : (image : List ℕ) → reportAnswer one image ≡ reportAnswer other image
+  pub list : (image buffer : List ℕ) → listAnswer one image buffer ≡ listAnswer other image buffer
+  pub list-buffer : (image buffer : List ℕ) → listBuffer one image buffer ≡ listBuffer other image buffer
+  pub step : (image : List ℕ) (kind x y : ℕ) → stepAnswer one image kind x y ≡ stepAnswer other image kind x y
+  pub step-image : (image : List ℕ) (kind x y : ℕ) → stepImage one image kind x y ≡ stepImage other image kind x y
+  pub run : (image : List ℕ) → runAnswer one image ≡ runAnswer other image
+  pub run-image : (image : List ℕ) → runImage one image ≡ runImage other image

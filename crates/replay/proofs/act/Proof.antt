@@ -3,16 +3,10 @@ use denote.Ref.{now}
 use Rattle.replay.proofs.Acted.{acts, act-taken, act-refused}
 use Rattle.replay.proofs.act.Statement.{statement}
 use Rattle.replay.proofs.act.Tie as tie
-use Rattle.replay.proofs.act.Reads as reads
-use Rattle.replay.proofs.act.Lts as lts
-use Rattle.automaton.proofs.try_action.Reads as try-action-reads
-use Rattle.image.proofs.take.Reads as take-reads
 
--- src/lib.rt:109:9
 try-action-requires : tie.Need-try-action-requires
 try-action-requires c κs = search needs
 
--- src/lib.rt:111:9
 take-requires : tie.Need-take-requires
 take-requires c κs =
     let at = c .before .before .before .before .before .before .before in
@@ -20,11 +14,9 @@ take-requires c κs =
     let tried = c .before .before .before .try-action .ensures in
     (at .pre .0, at .pre .1, acts (a .kind) (a .x) (a .y) tried (c .before .if1 .taken) .named)
 
--- src/lib.rt:105:1
 same-length : tie.Need-same-length
 same-length c = search needs
 
--- src/lib.rt:105:1
 returns : tie.Need-returns
 returns c =
     let at = c .before .before .before .before .before .before .before .before .before .before in
@@ -32,11 +24,9 @@ returns c =
     let tried = c .before .before .before .before .before .before .try-action .ensures in
     act-taken (now (a .upload)) (now (a .image)) (a .kind) (a .x) (a .y) (at .pre .0) (at .pre .1) tried _ (c .before .before .before .before .if1 .taken) (c .before .before .take .ensures)
 
--- src/lib.rt:105:1
 same-length-2 : tie.Need-same-length-2
 same-length-2 c = search needs
 
--- src/lib.rt:105:1
 returns-2 : tie.Need-returns-2
 returns-2 c =
     let at = c .before .before .before .before .before .before in

@@ -6,60 +6,43 @@ use Rattle.paper.specs.Upload.{byteAt}
 use Rattle.replay.specs.Taken.{Taken}
 use Rattle.replay.proofs.act_at.Statement.{statement}
 use Rattle.replay.proofs.act_at.Tie as tie
-use Rattle.replay.proofs.act_at.Reads as reads
-use Rattle.replay.proofs.act_at.Lts as lts
-use Rattle.replay.proofs.act.Reads as act-reads
-use Rattle.upload.proofs.links.Reads as links-reads
 
--- src/lib.rt:146:22
 links-requires : tie.Need-links-requires
 links-requires c κs = search needs
 
--- src/lib.rt:146:18
 mul-at : tie.Need-mul-at
 mul-at c = search needs
 
--- src/lib.rt:146:14
 add-at : tie.Need-add-at
 add-at c = search needs
 
--- src/lib.rt:146:46
 mul-at-2 : tie.Need-mul-at-2
 mul-at-2 c = search needs
 
--- src/lib.rt:146:14
 add-at-2 : tie.Need-add-at-2
 add-at-2 c = search needs
 
--- src/lib.rt:147:24
 shared-slice-read-act : tie.Need-shared-slice-read-act
 shared-slice-read-act c = search needs
 
--- src/lib.rt:147:43
 add-act : tie.Need-add-act
 add-act c = search needs
 
--- src/lib.rt:147:36
 shared-slice-read-act-2 : tie.Need-shared-slice-read-act-2
 shared-slice-read-act-2 c = search needs
 
--- src/lib.rt:147:59
 add-act-2 : tie.Need-add-act-2
 add-act-2 c = search needs
 
--- src/lib.rt:147:52
 shared-slice-read-act-3 : tie.Need-shared-slice-read-act-3
 shared-slice-read-act-3 c = search needs
 
--- src/lib.rt:147:5
 act-requires : tie.Need-act-requires
 act-requires c κs = search needs
 
--- src/lib.rt:142:1
 same-length : tie.Need-same-length
 same-length c = search needs
 
--- src/lib.rt:142:1
 returns : tie.Need-returns
 returns c =
     let links = c .before .before .before .before .before .before .before in

@@ -10,19 +10,10 @@ use Rattle.image.proofs.Kept.{fresh-holds}
 use Rattle.replay.proofs.Answers.{table-good, table-bad, fresh-table, fresh-table-left, fresh-length, fresh-length-left, fresh-done, fresh-done-left, lent-fits}
 use Rattle.replay.proofs.fresh.Statement.{statement}
 use Rattle.replay.proofs.fresh.Tie as tie
-use Rattle.replay.proofs.fresh.Reads as reads
-use Rattle.replay.proofs.fresh.Lts as lts
-use Rattle.image.proofs.make_fresh.Reads as make-fresh-reads
-use Rattle.replay.proofs.fitting.Reads as fitting-reads
-use Rattle.replay.proofs.refused.Reads as refused-reads
-use Rattle.replay.proofs.reporting.Reads as reporting-reads
-use Rattle.replay.proofs.table_answer.Reads as table-answer-reads
 
--- src/lib.rt:93:9
 table-answer-requires : tie.Need-table-answer-requires
 table-answer-requires c κs = search needs
 
--- src/lib.rt:95:9
 returns : tie.Need-returns
 returns c =
     let a = c .before .before .before .before .before .args in
@@ -30,21 +21,17 @@ returns c =
     let bad = table-bad (now (a .upload)) e (c .if1 .taken) in
     (e ∙ sym (fresh-table (now (a .upload)) (now (a .image)) bad), sym (fresh-table-left (now (a .upload)) (now (a .image)) bad))
 
--- src/lib.rt:97:9
 fitting-requires : tie.Need-fitting-requires
 fitting-requires c κs =
     let a = c .before .before .before .before .before .before .args in
     accepted-laws (now (a .upload)) (table-good (now (a .upload)) (c .before .before .before .table-answer .ensures) (c .before .if1 .left))
 
--- src/lib.rt:98:9
 refused-requires : tie.Need-refused-requires
 refused-requires c κs = search needs
 
--- src/lib.rt:98:9
 same-length : tie.Need-same-length
 same-length c = search needs
 
--- src/lib.rt:98:9
 returns-2 : tie.Need-returns-2
 returns-2 c =
     let at = c .before .before .before .before in
@@ -53,7 +40,6 @@ returns-2 c =
     let test = sym (c .before .before .fitting .ensures) ∙ not-true _ (c .before .if2 .taken) in
     (c .refused .ensures ∙ sym (fresh-length (now (a .upload)) (now (a .image)) good test), sym (fresh-length-left (now (a .upload)) (now (a .image)) good test))
 
--- src/lib.rt:100:5
 make-fresh-requires : tie.Need-make-fresh-requires
 make-fresh-requires c κs =
     let at = c .before .before .before .before in
@@ -61,7 +47,6 @@ make-fresh-requires c κs =
     let good = table-good (now (a .upload)) (at .before .before .table-answer .ensures) (at .if1 .left) in
     lent-fits (now (a .upload)) (now (a .image)) good (sym (c .before .before .fitting .ensures) ∙ not-false _ (c .before .if2 .left))
 
--- src/lib.rt:101:5
 reporting-requires : tie.Need-reporting-requires
 reporting-requires c κs =
     let at = c .before .before .before .before .before .before .before .before in
@@ -70,11 +55,9 @@ reporting-requires c κs =
     let lent = lent-fits (now (a .upload)) (now (a .image)) good (sym (c .before .before .before .before .before .before .fitting .ensures) ∙ not-false _ (c .before .before .before .before .before .if2 .left)) in
     fresh-holds (now (a .upload)) (now (a .image)) _ lent (c .before .before .before .make-fresh .ensures) .lent
 
--- src/lib.rt:89:1
 same-length-2 : tie.Need-same-length-2
 same-length-2 c = search needs
 
--- src/lib.rt:89:1
 returns-3 : tie.Need-returns-3
 returns-3 c =
     let done = c .before .before .before .before in

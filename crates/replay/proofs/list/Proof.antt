@@ -3,27 +3,17 @@ use borrow.Author.Tests.{not-true, not-false}
 use native.Mathlib.Omega.{arith}
 use Prim.Native.Nat.{_*_, _≤_}
 use lib.ListN.{length}
-use mathlib.Core.Path.{sym, ap, _∙_}
+use mathlib.Core.Path.{sym, _∙_}
 use denote.Ref.{now}
 use Rattle.table.proofs.Laws.{accepted-laws}
 use Rattle.replay.proofs.Answers.{table-good, table-bad, lent-here}
 use Rattle.replay.proofs.Listed.{list-table, list-table-left, list-image, list-image-left, list-room, list-room-left, list-done, list-done-left}
 use Rattle.replay.proofs.list.Statement.{statement}
 use Rattle.replay.proofs.list.Tie as tie
-use Rattle.replay.proofs.list.Reads as reads
-use Rattle.replay.proofs.list.Lts as lts
-use Rattle.listing.proofs.count_listed.Reads as count-listed-reads
-use Rattle.listing.proofs.list.Reads as list-reads
-use Rattle.replay.proofs.good_image.Reads as good-image-reads
-use Rattle.replay.proofs.refused.Reads as refused-reads
-use Rattle.replay.proofs.reporting.Reads as reporting-reads
-use Rattle.replay.proofs.table_answer.Reads as table-answer-reads
 
--- src/lib.rt:103:9
 table-answer-requires : tie.Need-table-answer-requires
 table-answer-requires c κs = search needs
 
--- src/lib.rt:105:9
 returns : tie.Need-returns
 returns c =
     let a = c .before .before .before .before .before .before .args in
@@ -31,17 +21,14 @@ returns c =
     let bad = table-bad (now (a .upload)) e (c .if1 .taken) in
     (e ∙ sym (list-table (now (a .upload)) (now (a .image)) (now (a .buffer)) bad), sym (list-table-left (now (a .upload)) (now (a .image)) (now (a .buffer)) bad))
 
--- src/lib.rt:107:9
 good-image-requires : tie.Need-good-image-requires
 good-image-requires c κs =
     let a = c .before .before .before .before .before .before .args in
     accepted-laws (now (a .upload)) (table-good (now (a .upload)) (c .before .before .table-answer .ensures) (c .if1 .left))
 
--- src/lib.rt:108:9
 refused-requires : tie.Need-refused-requires
 refused-requires c κs = search needs
 
--- src/lib.rt:108:9
 returns-2 : tie.Need-returns-2
 returns-2 c =
     let at = c .before .before .before in
@@ -50,7 +37,6 @@ returns-2 c =
     let test = sym (c .before .before .good-image .ensures) ∙ not-true _ (c .before .if2 .taken) in
     (c .refused .ensures ∙ sym (list-image (now (a .upload)) (now (a .image)) (now (a .buffer)) good test), sym (list-image-left (now (a .upload)) (now (a .image)) (now (a .buffer)) good test))
 
--- src/lib.rt:110:27
 count-listed-requires : tie.Need-count-listed-requires
 count-listed-requires c κs =
     let at = c .before .before in
@@ -58,15 +44,12 @@ count-listed-requires c κs =
     let good = table-good (now (a .upload)) (at .before .before .table-answer .ensures) (at .if1 .left) in
     lent-here (now (a .upload)) (now (a .image)) good (sym (c .before .good-image .ensures) ∙ not-false _ (c .if2 .left))
 
--- src/lib.rt:110:23
 mul-if3 : tie.Need-mul-if3
 mul-if3 c = search needs
 
--- src/lib.rt:111:9
 refused-requires-2 : tie.Need-refused-requires-2
 refused-requires-2 c κs = search needs
 
--- src/lib.rt:111:9
 returns-3 : tie.Need-returns-3
 returns-3 c =
     let tried = c .before .before .before in
@@ -77,7 +60,6 @@ returns-3 c =
     let count = c .before .before .count-listed in
     (c .refused2 .ensures ∙ sym (list-room (now (a .upload)) (now (a .image)) (now (a .buffer)) good test (count .result) (count .ensures .0) (c .before .if3 .taken)), sym (list-room-left (now (a .upload)) (now (a .image)) (now (a .buffer)) good test (count .result) (count .ensures .0) (c .before .if3 .taken)))
 
--- src/lib.rt:113:9
 list-requires : tie.Need-list-requires
 list-requires c κs =
     let tried = c .before .before .before in
@@ -87,11 +69,9 @@ list-requires c κs =
     let count = c .before .before .count-listed in
     (lent-here (now (a .upload)) (now (a .image)) good (sym (tried .before .good-image .ensures) ∙ not-false _ (tried .if2 .left)), omega (arith, count .ensures .0, c .before .if3 .left))
 
--- src/lib.rt:114:36
 cast-reporting : tie.Need-cast-reporting
 cast-reporting c = search needs
 
--- src/lib.rt:114:5
 reporting-requires : tie.Need-reporting-requires
 reporting-requires c κs =
     let tried = c .before .before .before .before .before .before in
@@ -100,11 +80,9 @@ reporting-requires c κs =
     let good = table-good (now (a .upload)) (at .before .before .table-answer .ensures) (at .if1 .left) in
     lent-here (now (a .upload)) (now (a .image)) good (sym (tried .before .good-image .ensures) ∙ not-false _ (tried .if2 .left))
 
--- src/lib.rt:99:1
 same-length : tie.Need-same-length
 same-length c = search needs
 
--- src/lib.rt:99:1
 returns-4 : tie.Need-returns-4
 returns-4 c =
     let done = c .before .before .before in

@@ -6,38 +6,27 @@ use Rattle.replay.proofs.Answers.{table-good, table-bad}
 use Rattle.replay.proofs.Replayed.{replay-table, replay-done, taken-length}
 use Rattle.replay.proofs.replay.Statement.{statement}
 use Rattle.replay.proofs.replay.Tie as tie
-use Rattle.replay.proofs.replay.Reads as reads
-use Rattle.replay.proofs.replay.Lts as lts
-use Rattle.replay.proofs.image_length.Reads as image-length-reads
-use Rattle.replay.proofs.replay_on.Reads as replay-on-reads
-use Rattle.replay.proofs.table_answer.Reads as table-answer-reads
 
--- src/lib.rt:197:9
 table-answer-requires : tie.Need-table-answer-requires
 table-answer-requires c κs = search needs
 
--- src/lib.rt:199:9
 returns : tie.Need-returns
 returns c =
     let up = now (c .before .before .before .before .args .upload) in
     let e = c .before .before .table-answer .ensures in
     e ∙ sym (replay-table up (table-bad up e (c .if1 .taken)))
 
--- src/lib.rt:202:9
 image-length-requires : tie.Need-image-length-requires
 image-length-requires c κs =
     let up = now (c .before .before .before .before .args .upload) in
     accepted-laws up (table-good up (c .before .before .table-answer .ensures) (c .if1 .left))
 
--- src/lib.rt:203:23
 array-borrow-prefix-buffer : tie.Need-array-borrow-prefix-buffer
 array-borrow-prefix-buffer c = search needs
 
--- src/lib.rt:203:23
 slice-aggregate-replay-on : tie.Need-slice-aggregate-replay-on
 slice-aggregate-replay-on c = taken-length (c .before .image-length .result) _ (c .before .image-length .ensures .1)
 
--- src/lib.rt:203:5
 replay-on-requires : tie.Need-replay-on-requires
 replay-on-requires c κs =
     let k = c .before .image-length in
@@ -48,7 +37,6 @@ replay-on-requires c κs =
       fits = sym (taken-length (k .result) _ (k .ensures .1)) ∙ k .ensures .0;
     }
 
--- src/lib.rt:194:1
 returns-2 : tie.Need-returns-2
 returns-2 c =
     let at = c .before .before .before .before in

@@ -7,11 +7,6 @@ use Rattle.paper.specs.Upload.{actionsOf}
 use Rattle.replay.proofs.Replaying.{Halfway, begins, goes-on, stops, ends}
 use Rattle.replay.proofs.replay_into.Statement.{statement}
 use Rattle.replay.proofs.replay_into.Tie as tie
-use Rattle.replay.proofs.replay_into.Reads as reads
-use Rattle.replay.proofs.replay_into.Lts as lts
-use Rattle.image.proofs.make_fresh.Reads as make-fresh-reads
-use Rattle.replay.proofs.act_at.Reads as act-at-reads
-use Rattle.upload.proofs.actions.Reads as actions-reads
 
 abbrev Inv-loop : tie.InvT-loop
 Inv-loop upload image₀ a i₀ image i = (i ≤ a) × (a ≡ actionsOf upload) × Halfway upload image i
@@ -19,39 +14,31 @@ Inv-loop upload image₀ a i₀ image i = (i ≤ a) × (a ≡ actionsOf upload) 
 abbrev μ-loop : tie.MeasureT-loop
 μ-loop upload image₀ a i₀ image i = a - i
 
--- src/lib.rt:155:5
 make-fresh-requires : tie.Need-make-fresh-requires Inv-loop μ-loop
 make-fresh-requires c κs = search needs
 
--- src/lib.rt:156:9
 actions-requires : tie.Need-actions-requires Inv-loop μ-loop
 actions-requires c κs = search needs
 
--- src/lib.rt:158:5
 loop-holds : tie.Need-loop-holds Inv-loop μ-loop
 loop-holds c =
     let at = c .before .before .before .before .before .before .before in
     (search needs, c .actions .ensures .0, begins (now (at .args .upload)) (now (at .args .image)) _ (at .pre) (c .before .before .before .make-fresh .ensures))
 
--- src/lib.rt:159:13
 act-at-requires : tie.Need-act-at-requires Inv-loop μ-loop
 act-at-requires c κs =
     let inv = c .before .before .loop .inv in
     (inv .2 .lent, inv .2 .isSound, search needs)
 
--- src/lib.rt:163:24
 cast-t12 : tie.Need-cast-t12 Inv-loop μ-loop
 cast-t12 c = search needs
 
--- src/lib.rt:164:24
 cast-t13 : tie.Need-cast-t13 Inv-loop μ-loop
 cast-t13 c = search needs
 
--- src/lib.rt:161:13
 same-length : tie.Need-same-length Inv-loop μ-loop
 same-length c = search needs
 
--- src/lib.rt:161:13
 returns : tie.Need-returns Inv-loop μ-loop
 returns c =
     let done = c .before .before .before in
@@ -59,15 +46,12 @@ returns c =
     let a = loop .before .before .before .before .before .before .before .before .args in
     stops (now (a .upload)) (loop .loop .image) _ (loop .loop .i) _ (loop .loop .inv .2) (search needs) (done .act-at .ensures) (c .if1 .taken)
 
--- src/lib.rt:167:9
 add-i : tie.Need-add-i Inv-loop μ-loop
 add-i c = search needs
 
--- src/lib.rt:158:5
 loop-less : tie.Need-loop-less Inv-loop μ-loop
 loop-less c = search needs
 
--- src/lib.rt:158:5
 loop-again : tie.Need-loop-again Inv-loop μ-loop
 loop-again c =
     let done = c .before .before .before in
@@ -75,15 +59,12 @@ loop-again c =
     let a = loop .before .before .before .before .before .before .before .before .args in
     (search needs, loop .loop .inv .1, goes-on (now (a .upload)) (loop .loop .image) _ (loop .loop .i) _ (loop .loop .inv .2) (search needs) (done .act-at .ensures) (c .if1 .left))
 
--- src/lib.rt:172:16
 cast-t14 : tie.Need-cast-t14 Inv-loop μ-loop
 cast-t14 c = search needs
 
--- src/lib.rt:151:1
 same-length-2 : tie.Need-same-length-2 Inv-loop μ-loop
 same-length-2 c = search needs
 
--- src/lib.rt:151:1
 returns-2 : tie.Need-returns-2 Inv-loop μ-loop
 returns-2 c =
     let loop = c .before in

@@ -5,24 +5,16 @@ use Rattle.paper.specs.Table.{tableOf}
 use Rattle.paper.specs.Calls.{Replayed, reported}
 use Rattle.replay.proofs.replay_on.Statement.{statement}
 use Rattle.replay.proofs.replay_on.Tie as tie
-use Rattle.replay.proofs.replay_on.Reads as reads
-use Rattle.replay.proofs.replay_on.Lts as lts
-use Rattle.replay.proofs.replay_into.Reads as replay-into-reads
-use Rattle.replay.proofs.reporting.Reads as reporting-reads
 
--- src/lib.rt:181:9
 replay-into-requires : tie.Need-replay-into-requires
 replay-into-requires c κs = search needs
 
--- src/lib.rt:182:5
 reporting-requires : tie.Need-reporting-requires
 reporting-requires c κs = search needs
 
--- src/lib.rt:177:1
 same-length : tie.Need-same-length
 same-length c = search needs
 
--- src/lib.rt:177:1
 returns : tie.Need-returns
 returns c =
     let done = c .before .before .before .before in

@@ -1,15 +1,10 @@
 use borrow.Author.Needs.{needs}
 use Rattle.replay.proofs.reporting.Statement.{statement}
 use Rattle.replay.proofs.reporting.Tie as tie
-use Rattle.replay.proofs.reporting.Reads as reads
-use Rattle.replay.proofs.reporting.Lts as lts
-use Rattle.automaton.proofs.report_of.Reads as report-of-reads
 
--- src/lib.rt:63:9
 report-of-requires : tie.Need-report-of-requires
 report-of-requires c κs = search needs
 
--- src/lib.rt:59:1
 returns : tie.Need-returns
 returns c =
     let r = c .report-of .ensures in

@@ -11,19 +11,10 @@ use Rattle.replay.proofs.Answers.{table-good, table-bad, lent-fits}
 use Rattle.replay.proofs.Running.{run-table, run-table-left, run-length, run-length-left, run-done, run-done-left}
 use Rattle.replay.proofs.run.Statement.{statement}
 use Rattle.replay.proofs.run.Tie as tie
-use Rattle.replay.proofs.run.Reads as reads
-use Rattle.replay.proofs.run.Lts as lts
-use Rattle.replay.proofs.fitting.Reads as fitting-reads
-use Rattle.replay.proofs.refused.Reads as refused-reads
-use Rattle.replay.proofs.reporting.Reads as reporting-reads
-use Rattle.replay.proofs.run_into.Reads as run-into-reads
-use Rattle.replay.proofs.table_answer.Reads as table-answer-reads
 
--- src/lib.rt:269:9
 table-answer-requires : tie.Need-table-answer-requires
 table-answer-requires c κs = search needs
 
--- src/lib.rt:271:9
 returns : tie.Need-returns
 returns c =
     let a = c .before .before .before .before .before .args in
@@ -31,21 +22,17 @@ returns c =
     let bad = table-bad (now (a .upload)) e (c .if1 .taken) in
     (e ∙ sym (run-table (now (a .upload)) (now (a .image)) bad), sym (run-table-left (now (a .upload)) (now (a .image)) bad))
 
--- src/lib.rt:273:9
 fitting-requires : tie.Need-fitting-requires
 fitting-requires c κs =
     let a = c .before .before .before .before .before .before .args in
     accepted-laws (now (a .upload)) (table-good (now (a .upload)) (c .before .before .before .table-answer .ensures) (c .before .if1 .left))
 
--- src/lib.rt:274:9
 refused-requires : tie.Need-refused-requires
 refused-requires c κs = search needs
 
--- src/lib.rt:274:9
 same-length : tie.Need-same-length
 same-length c = search needs
 
--- src/lib.rt:274:9
 returns-2 : tie.Need-returns-2
 returns-2 c =
     let at = c .before .before .before .before in
@@ -54,7 +41,6 @@ returns-2 c =
     let test = sym (c .before .before .fitting .ensures) ∙ not-true _ (c .before .if2 .taken) in
     (c .refused .ensures ∙ sym (run-length (now (a .upload)) (now (a .image)) good test), sym (run-length-left (now (a .upload)) (now (a .image)) good test))
 
--- src/lib.rt:276:9
 run-into-requires : tie.Need-run-into-requires
 run-into-requires c κs =
     let at = c .before .before .before .before in
@@ -62,15 +48,12 @@ run-into-requires c κs =
     let good = table-good (now (a .upload)) (at .before .before .table-answer .ensures) (at .if1 .left) in
     lent-fits (now (a .upload)) (now (a .image)) good (sym (c .before .before .fitting .ensures) ∙ not-false _ (c .before .if2 .left))
 
--- src/lib.rt:277:5
 reporting-requires : tie.Need-reporting-requires
 reporting-requires c κs = search needs
 
--- src/lib.rt:265:1
 same-length-2 : tie.Need-same-length-2
 same-length-2 c = search needs
 
--- src/lib.rt:265:1
 returns-3 : tie.Need-returns-3
 returns-3 c =
     let done = c .before .before .before .before in

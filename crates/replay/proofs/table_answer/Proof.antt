@@ -5,39 +5,28 @@ use Rattle.paper.specs.Calls.{refusedWith}
 use Rattle.replay.proofs.Checked.{from-accepted, from-refused}
 use Rattle.replay.proofs.table_answer.Statement.{statement}
 use Rattle.replay.proofs.table_answer.Tie as tie
-use Rattle.replay.proofs.table_answer.Reads as reads
-use Rattle.replay.proofs.table_answer.Lts as lts
-use Rattle.replay.proofs.refused.Reads as refused-reads
-use Rattle.table.proofs.check.Reads as check-reads
 
--- src/lib.rt:29:9
 check-requires : tie.Need-check-requires
 check-requires c κs = search needs
 
--- src/lib.rt:31:36
 enum-known-checked : tie.Need-enum-known-checked
 enum-known-checked c = search needs
 
--- src/lib.rt:31:49
 refused-requires : tie.Need-refused-requires
 refused-requires c κs = search needs
 
--- src/lib.rt:32:35
 enum-known-checked-2 : tie.Need-enum-known-checked-2
 enum-known-checked-2 c = search needs
 
--- src/lib.rt:32:54
 refused-requires-2 : tie.Need-refused-requires-2
 refused-requires-2 c κs = search needs
 
--- src/lib.rt:26:1
 returns : tie.Need-returns
 returns c =
     let at = c .before .before .before .before in
     c .refused .ensures
     ∙ sym (ap refusedWith (from-accepted (now (at .before .before .args .upload)) _ _ _ (sym (at .check .ensures) ∙ c .before .before .checked .given .1)))
 
--- src/lib.rt:26:1
 returns-2 : tie.Need-returns-2
 returns-2 c =
     let at = c .before .before .before .before in

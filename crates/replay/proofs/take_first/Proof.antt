@@ -3,31 +3,22 @@ use denote.Ref.{now}
 use Rattle.replay.proofs.Advancing.{first-acts, advanced, at-rest}
 use Rattle.replay.proofs.take_first.Statement.{statement}
 use Rattle.replay.proofs.take_first.Tie as tie
-use Rattle.replay.proofs.take_first.Reads as reads
-use Rattle.replay.proofs.take_first.Lts as lts
-use Rattle.first.proofs.first_listed.Reads as first-listed-reads
-use Rattle.image.proofs.take.Reads as take-reads
 
--- src/lib.rt:232:9
 first-listed-requires : tie.Need-first-listed-requires
 first-listed-requires c κs = search needs
 
--- src/lib.rt:234:48
 cast-take : tie.Need-cast-take
 cast-take c = search needs
 
--- src/lib.rt:234:9
 take-requires : tie.Need-take-requires
 take-requires c κs =
     let first = c .before .before .before in
     let at = first .before .before .before .before in
     (at .pre .0, at .pre .1, first-acts (now (at .args .upload)) (now (at .args .image)) (at .pre .0) (at .pre .1) (first .first-listed .result) (first .first-listed .ensures) (c .before .before .if1 .taken) .named)
 
--- src/lib.rt:228:1
 same-length : tie.Need-same-length
 same-length c = search needs
 
--- src/lib.rt:228:1
 returns : tie.Need-returns
 returns c =
     let then = c .before .before .before .before .before in
@@ -35,11 +26,9 @@ returns c =
     let at = first .before .before .before .before in
     advanced (now (at .args .upload)) (now (at .args .image)) (at .pre .0) (at .pre .1) (first .first-listed .result) (first .first-listed .ensures) _ (then .if1 .taken) (c .before .before .take .ensures)
 
--- src/lib.rt:228:1
 same-length-2 : tie.Need-same-length-2
 same-length-2 c = search needs
 
--- src/lib.rt:228:1
 returns-2 : tie.Need-returns-2
 returns-2 c =
     let first = c .before in
