@@ -1,1 +1,1 @@
-// What it is for a contract to allow no second answer: a definition and laws, no code.
+// What it is for a contract to allow no second answer, and to have one: definitions and laws, no code.

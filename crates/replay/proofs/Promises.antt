@@ -1,4 +1,4 @@
--- The promises hold.
+-- Each step is possible exactly when the plain words say so, and has the effect that they name and no other.
 use Prim.Native.Nat.{ℕ, _<_}
 use mathlib.Core.Bool.{Bool, true, false, not, cond, _&&_, Bool·beq}
 use mathlib.Core.Path.{_≡_, refl, ap, _∙_}

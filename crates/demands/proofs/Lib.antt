@@ -1,0 +1,14 @@
+pub mod Order
+pub mod TableGround
+pub mod Told
+pub mod Least
+pub mod OneAction
+pub mod Replaying
+pub mod Grounds
+pub mod ExactlyWhen
+pub mod TextLength
+pub mod Left
+pub mod ListLength
+pub mod Answers
+pub mod Holds
+pub mod Calls
