@@ -1,6 +1,6 @@
 -- The direction that a step names, by kind.
 use Prim.Native.Nat.{ℕ}
-use mathlib.Core.Bool.{Bool, true, false, cond, _&&_, false≢true}
+use mathlib.Core.Bool.{Bool, true, false, cond}
 use mathlib.Core.Path.{_≡_, refl, sym, ap, _∙_}
 use lib.Dec.{eqb}
 use Rattle.paper.specs.Table.{Table}
@@ -38,10 +38,6 @@ link-end kind i b = go (eqb kind 2) (eqb kind 3)
     go true c = refl
     go false true = refl
     go false false = refl
-
-pub both : (a b : Bool) → (a && b) ≡ true → (a ≡ true) × (b ≡ true)
-both true b h = (refl, h)
-both false b h = (h, absurd (false≢true h))
 
 -- an action that names no step
 pub tried-not : {t : Table} {s : State} (k : ℕ) → TriedAs t s (unread k) (record { number = k; link = 0; back = false })
