@@ -1,47 +1,42 @@
 -- The direction that a step names, by kind.
 use Prim.Native.Nat.{ℕ}
-use mathlib.Core.Bool.{Bool, true, false, cond, _&&_, false≢true}
+use mathlib.Core.Bool.{Bool, true, false, cond}
 use mathlib.Core.Path.{_≡_, refl, sym, ap, _∙_}
 use lib.Dec.{eqb}
 use Rattle.paper.specs.Table.{Table}
 use Rattle.paper.specs.State.{State}
-use Rattle.paper.specs.Steps.{childrenKnown, addChild, acknowledge, resolve, becomeRoot, possible}
+use Rattle.paper.specs.Steps.{Step, childrenKnown, addChild, acknowledge, resolve, becomeRoot, possible}
 use Rattle.paper.specs.Actions.{names, unread, nodeStep, linkStep}
 use Rattle.automaton.specs.Tried.{linkOf, endOf, TriedAs}
 
-pub node-link : (kind x : ℕ) → linkOf (nodeStep kind x) ≡ 0
-node-link kind x = go (eqb kind 1)
+-- what is the same of both steps at a node, by kind
+node-either : {A : Type 0} (f : Step → A) {a : A} (kind x : ℕ) → f (childrenKnown x) ≡ a → f (becomeRoot x) ≡ a → f (nodeStep kind x) ≡ a
+node-either f {a} kind x known root = go (eqb kind 1)
   where
-    go : (a : Bool) → linkOf (cond a (childrenKnown x) (becomeRoot x)) ≡ 0
-    go true = refl
-    go false = refl
+    go : (k : Bool) → f (cond k (childrenKnown x) (becomeRoot x)) ≡ a
+    go true = known
+    go false = root
+
+-- what is the same of the three steps on a direction, by kind
+link-either : {A : Type 0} (f : Step → A) {a : A} (kind i : ℕ) (b : Bool) → f (addChild i b) ≡ a → f (acknowledge i b) ≡ a → f (resolve i b) ≡ a → f (linkStep kind i b) ≡ a
+link-either f {a} kind i b added acknowledged resolved = go (eqb kind 2) (eqb kind 3)
+  where
+    go : (k l : Bool) → f (cond k (addChild i b) (cond l (acknowledge i b) (resolve i b))) ≡ a
+    go true l = added
+    go false true = acknowledged
+    go false false = resolved
+
+pub node-link : (kind x : ℕ) → linkOf (nodeStep kind x) ≡ 0
+node-link kind x = node-either linkOf kind x refl refl
 
 pub node-end : (kind x : ℕ) → endOf (nodeStep kind x) ≡ false
-node-end kind x = go (eqb kind 1)
-  where
-    go : (a : Bool) → endOf (cond a (childrenKnown x) (becomeRoot x)) ≡ false
-    go true = refl
-    go false = refl
+node-end kind x = node-either endOf kind x refl refl
 
 pub link-link : (kind i : ℕ) (b : Bool) → linkOf (linkStep kind i b) ≡ i
-link-link kind i b = go (eqb kind 2) (eqb kind 3)
-  where
-    go : (a c : Bool) → linkOf (cond a (addChild i b) (cond c (acknowledge i b) (resolve i b))) ≡ i
-    go true c = refl
-    go false true = refl
-    go false false = refl
+link-link kind i b = link-either linkOf kind i b refl refl refl
 
 pub link-end : (kind i : ℕ) (b : Bool) → endOf (linkStep kind i b) ≡ b
-link-end kind i b = go (eqb kind 2) (eqb kind 3)
-  where
-    go : (a c : Bool) → endOf (cond a (addChild i b) (cond c (acknowledge i b) (resolve i b))) ≡ b
-    go true c = refl
-    go false true = refl
-    go false false = refl
-
-pub both : (a b : Bool) → (a && b) ≡ true → (a ≡ true) × (b ≡ true)
-both true b h = (refl, h)
-both false b h = (h, absurd (false≢true h))
+link-end kind i b = link-either endOf kind i b refl refl refl
 
 -- an action that names no step
 pub tried-not : {t : Table} {s : State} (k : ℕ) → TriedAs t s (unread k) (record { number = k; link = 0; back = false })

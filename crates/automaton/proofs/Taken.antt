@@ -5,13 +5,14 @@ use mathlib.Core.Path.{_≡_, refl, sym, ap, subst₂, _∙_}
 use native.Mathlib.Omega.{arith}
 use borrow.Author.Tests.{ltb-true, eqb-true}
 use lib.Dec.{ltb, eqb}
+use Rattle.counting.proofs.Booleans.{and-left, and-right}
 use Rattle.paper.specs.Table.{Table}
 use Rattle.paper.specs.State.{State}
 use Rattle.paper.specs.Steps.{Step, possible}
 use Rattle.paper.specs.Actions.{Reading, names, unread, linkBetween, directionFrom, nodeStep, linkStep, readNode, readLink, ofNode, ofLink, reading, refusedBy}
 use Rattle.automaton.specs.Tried.{linkRead, endRead, TriedAs}
 use Rattle.automaton.specs.declared.Tried.{Tried}
-use Rattle.automaton.proofs.Named.{both, link-link, link-end}
+use Rattle.automaton.proofs.Named.{link-link, link-end}
 
 -- an action of kind 1 or 5 that can be taken
 pub record AtNode (t : Table) (s : State) (kind x y : ℕ) : Type 0 where
@@ -49,10 +50,9 @@ module _ (t : Table) (s : State) where
       let way : reading t kind x y ≡ readNode t kind x y = rw e in
       let test = ltb x (t .nodes) && eqb y 255 in
       let got = picked test (names (nodeStep kind x)) 8 (sym (ap (refusedBy t s) way) ∙ h) in
-      let parts = both (ltb x (t .nodes)) (eqb y 255) (got .0) in
       record {
-        node = ltb-true x (t .nodes) (parts .0);
-        all = eqb-true y 255 (parts .1);
+        node = ltb-true x (t .nodes) (and-left (ltb x (t .nodes)) (eqb y 255) (got .0));
+        all = eqb-true y 255 (and-right (ltb x (t .nodes)) (eqb y 255) (got .0));
         read = way ∙ ap (λ (g : Bool). cond g (names (nodeStep kind x)) (unread 9)) (got .0);
         may = allowed (nodeStep kind x) (got .1);
       }
@@ -69,12 +69,11 @@ module _ (t : Table) (s : State) where
       let kinds = picked (ofLink kind) (readLink t kind x y) 8 (sym (ap (refusedBy t s) way) ∙ h) in
       let inner = cond (ltb i (t .links)) (names step) (unread 10) in
       let nodes = picked (ltb x (t .nodes) && ltb y (t .nodes)) inner 8 (kinds .1) in
-      let parts = both (ltb x (t .nodes)) (ltb y (t .nodes)) (nodes .0) in
       let found = picked (ltb i (t .links)) (names step) 9 (nodes .1) in
       record {
         kinds = kinds .0;
-        from = ltb-true x (t .nodes) (parts .0);
-        to = ltb-true y (t .nodes) (parts .1);
+        from = ltb-true x (t .nodes) (and-left (ltb x (t .nodes)) (ltb y (t .nodes)) (nodes .0));
+        to = ltb-true y (t .nodes) (and-right (ltb x (t .nodes)) (ltb y (t .nodes)) (nodes .0));
         link = ltb-true i (t .links) (found .0);
         between = refl;
         way = refl;

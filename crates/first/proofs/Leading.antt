@@ -18,11 +18,11 @@ use Rattle.automaton.proofs.Named.{node-link, node-end, link-link, link-end}
 use Rattle.listing.specs.Links.{mayList}
 use Rattle.listing.proofs.Entries.{node-entries, link-entry}
 use Rattle.first.specs.declared.First.{First}
-use Rattle.first.specs.Leads.{firstOf, Whole, none, entry as whole, Leads}
+use Rattle.first.specs.Leads.{nothing, firstOf, Whole, none, entry as whole, Leads}
 
 -- nothing found
-pub leads-none : (t : Table) → Leads t [] (record { found = false; kind = 0; x = 0; y = 0; link = 0; back = false })
-leads-none t = record { is = refl; whole = none }
+leads-none : {t : Table} {r : First} → r ≡ nothing → Leads t [] r
+leads-none e = record { is = e; whole = none }
 
 pub leads-empty : {t : Table} {l : List ℕ} {r : First} → Leads t l r → r .found ≡ false → l ≡ []
 leads-empty {t} {l} {r} h e = go (h .whole) (h .is)
@@ -65,8 +65,8 @@ leads-found {t} {r} n i f below h here e =
     let from = joined-from n i f below h in
     subst (λ (l : List ℕ). Leads t l r) (sym (from .1)) (leads-before (from .0) here e)
 
-pub leads-end : {t : Table} {i n : ℕ} (f : ℕ → List ℕ) → i ≡ n → joined i f ≡ [] → Leads t (joined n f) (record { found = false; kind = 0; x = 0; y = 0; link = 0; back = false })
-leads-end {t} f e h = rw (← e, h) (leads-none t)
+pub leads-end : {t : Table} {r : First} {i n : ℕ} (f : ℕ → List ℕ) → i ≡ n → joined i f ≡ [] → r ≡ nothing → Leads t (joined n f) r
+leads-end f e h is = rw (← e, h) (leads-none is)
 
 leads-step : {t : Table} (kind x y i : ℕ) (b : Bool) (rest : List ℕ) →
     i ≡ linkRead (reading t kind x y) →
@@ -78,10 +78,8 @@ leads-step kind x y i b rest link back =
       whole = whole kind x y rest;
     }
 
-leads-not : (t : Table) (p : Bool) (l : List ℕ) →
-    p ≡ false →
-    Leads t (cond p l []) (record { found = false; kind = 0; x = 0; y = 0; link = 0; back = false })
-leads-not t p l e = rw e (leads-none t)
+leads-not : {t : Table} {r : First} (p : Bool) (l : List ℕ) → p ≡ false → r ≡ nothing → Leads t (cond p l []) r
+leads-not p l e is = rw e (leads-none is)
 
 -- a link that may be listed is one
 pub is-link : (t : Table) (s : State) (kind i x : ℕ) → mayList t s kind i x ≡ true → i < t .links
@@ -103,10 +101,12 @@ module _ (t : Table) (s : State) (kind x : ℕ) (small : t .nodes ≤ 63) (below
       (sym (ap linkRead read ∙ node-link kind x))
       (sym (ap endRead read ∙ node-end kind x)))
 
-  pub leads-no-node : ofNode kind ≡ true →
+  pub leads-no-node : {r : First} →
+      ofNode kind ≡ true →
       possible t s (nodeStep kind x) ≡ false →
-      Leads t (entriesAt t s kind x) (record { found = false; kind = 0; x = 0; y = 0; link = 0; back = false })
-  leads-no-node e may = rw (node-entries t s kind x small below e) (leads-not t _ _ may)
+      r ≡ nothing →
+      Leads t (entriesAt t s kind x) r
+  leads-no-node e may is = rw (node-entries t s kind x small below e) (leads-not _ _ may is)
 
   module _ (e : ofNode kind ≡ false) (f : ofLink kind ≡ true) (y i : ℕ) (b : Bool) (within : y < t .nodes) (between : i ≡ linkBetween t x y) where
     pub leads-link : mayList t s kind i x ≡ true →
@@ -128,10 +128,9 @@ module _ (t : Table) (s : State) (kind x : ℕ) (small : t .nodes ≤ 63) (below
         (sym (ap linkRead read ∙ link-link kind i (directionFrom t i x)))
         (way ∙ sym (ap endRead read ∙ link-end kind i (directionFrom t i x))))
 
-    pub leads-no-link : mayList t s kind i x ≡ false →
-        Leads t (entry t s kind x y) (record { found = false; kind = 0; x = 0; y = 0; link = 0; back = false })
-    leads-no-link may =
-        rw (link-entry t s kind x small below e f y within, ← between) (leads-not t _ _ may)
+    pub leads-no-link : {r : First} → mayList t s kind i x ≡ false → r ≡ nothing → Leads t (entry t s kind x y) r
+    leads-no-link may is =
+        rw (link-entry t s kind x small below e f y within, ← between) (leads-not _ _ may is)
 
 pub leads-as : {t : Table} {l k : List ℕ} {r : First} → l ≡ k → Leads t l r → Leads t k r
 leads-as {t} {l} {k} {r} e h = subst (λ (j : List ℕ). Leads t j r) e h

@@ -9,9 +9,13 @@ use Rattle.paper.specs.Actions.{reading}
 use Rattle.automaton.specs.Tried.{linkRead, endRead}
 use Rattle.first.specs.declared.First.{First}
 
+-- nothing is found
+abbrev pub nothing : First
+nothing = record { found = false; kind = 0; x = 0; y = 0; link = 0; back = false }
+
 -- the first entry, with the direction that it names; nothing found in an empty list
 abbrev pub firstOf : Table → List ℕ → First
-firstOf t [] = record { found = false; kind = 0; x = 0; y = 0; link = 0; back = false }
+firstOf t [] = nothing
 firstOf t (kind ∷ rest) =
     record {
       found = true;

@@ -8,7 +8,7 @@ ghost use Rattle.paper.specs.Actions.{linkBetween, ofNode, ofLink, entry, entri
 ghost use Rattle.marks.specs.Lent.{Lent};
 ghost use Rattle.automaton.specs.Tried.{shown};
 ghost use Rattle.listing.specs.Links.{Noted};
-ghost use Rattle.first.specs.Leads.{firstOf, Leads};
+ghost use Rattle.first.specs.Leads.{nothing, firstOf, Leads};
 
 // The first entry of the list, with the direction that it names; 0 and false where nothing is found.
 pub struct First {
@@ -18,6 +18,20 @@ pub struct First {
     pub y: u8,
     pub link: usize,
     pub back: bool,
+}
+
+// Nothing is found.
+fn nothing() -> First
+    ensures { λ r. ⌜ r ≡ nothing ⌝ }
+{
+    First {
+        found: false,
+        kind: 0,
+        x: 0,
+        y: 0,
+        link: 0,
+        back: false,
+    }
 }
 
 // The entry of kind 1 or 5 at x.
@@ -35,14 +49,7 @@ fn first_at_node(upload: &[u8], image: &[u8], kind: usize, x: usize) -> First
             back: false,
         }
     } else {
-        First {
-            found: false,
-            kind: 0,
-            x: 0,
-            y: 0,
-            link: 0,
-            back: false,
-        }
+        nothing()
     }
 }
 
@@ -61,14 +68,7 @@ fn first_on_link(upload: &[u8], image: &[u8], kind: usize, x: usize, y: usize, i
             back: !(automaton::end_node(upload, i, false) == x),
         }
     } else {
-        First {
-            found: false,
-            kind: 0,
-            x: 0,
-            y: 0,
-            link: 0,
-            back: false,
-        }
+        nothing()
     }
 }
 
@@ -86,14 +86,7 @@ fn first_in_row(upload: &[u8], image: &[u8], table: &[u8], kind: usize, x: usize
         }
         y += 1;
     }
-    First {
-        found: false,
-        kind: 0,
-        x: 0,
-        y: 0,
-        link: 0,
-        back: false,
-    }
+    nothing()
 }
 
 // The first entry of kinds 2 to 4 from x.
@@ -133,14 +126,7 @@ fn first_of_kind(upload: &[u8], image: &[u8], kind: usize) -> First
         }
         x += 1;
     }
-    First {
-        found: false,
-        kind: 0,
-        x: 0,
-        y: 0,
-        link: 0,
-        back: false,
-    }
+    nothing()
 }
 
 // The first entry of the list.
@@ -156,12 +142,5 @@ pub fn first_listed(upload: &[u8], image: &[u8]) -> First
         }
         k += 1;
     }
-    First {
-        found: false,
-        kind: 0,
-        x: 0,
-        y: 0,
-        link: 0,
-        back: false,
-    }
+    nothing()
 }

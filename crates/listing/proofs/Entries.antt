@@ -7,11 +7,11 @@ use native.Mathlib.Omega.{arith}
 use borrow.Author.Tests.{lt-ltb, le-ltb, le-leb, eqb-false, ne-eqb}
 use lib.Dec.{ltb, eqb}
 use Rattle.counting.specs.Count.{joined}
+use Rattle.counting.proofs.Booleans.{or-neither}
 use Rattle.paper.specs.Table.{Table}
 use Rattle.paper.specs.State.{State}
 use Rattle.paper.specs.Steps.{Step, possible}
 use Rattle.paper.specs.Actions.{names, unread, linkBetween, directionFrom, nodeStep, linkStep, ofNode, ofLink, reading, refusedBy, entry, entriesAt}
-use Rattle.automaton.proofs.More.{or-neither}
 use Rattle.listing.specs.Links.{mayList}
 
 -- the kinds 1 to 5 that name no node alone name a link

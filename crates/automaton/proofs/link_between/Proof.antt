@@ -1,13 +1,14 @@
 use borrow.Author.Needs.{needs}
-use Prim.Native.Nat.{ℕ, _-_, _≤_}
+use Prim.Native.Nat.{_-_, _≤_}
 use mathlib.Core.Bool.{false}
-use mathlib.Core.Path.{_≡_, sym, subst, _∙_}
+use mathlib.Core.Path.{_≡_, sym, _∙_}
 use native.Mathlib.Omega.{arith}
 use Rattle.counting.specs.Count.{some}
+use Rattle.counting.proofs.Tests.{some-empty, least-found, least-none}
 use Rattle.paper.specs.Actions.{joins}
 use Rattle.paper.specs.Table.{tableOf}
 use Rattle.paper.specs.Upload.{linksOf}
-use Rattle.automaton.proofs.More.{some-none, some-more, least-found, least-none}
+use Rattle.automaton.proofs.More.{none-more, none-end}
 use Rattle.automaton.proofs.link_between.Statement.{statement}
 use Rattle.automaton.proofs.link_between.Tie as tie
 
@@ -21,7 +22,7 @@ links-requires : tie.Need-links-requires Inv-loop μ-loop
 links-requires c κs = search needs
 
 loop-holds : tie.Need-loop-holds Inv-loop μ-loop
-loop-holds c = (search needs, c .links .ensures .0, some-none _)
+loop-holds c = (search needs, c .links .ensures .0, some-empty _)
 
 joins-at-requires : tie.Need-joins-at-requires Inv-loop μ-loop
 joins-at-requires c κs = search needs
@@ -40,17 +41,14 @@ loop-less c = search needs
 loop-again : tie.Need-loop-again Inv-loop μ-loop
 loop-again c =
     let now = c .before .before .before .loop in
-    (search needs, now .inv .1, some-more _ _ (now .inv .2) (sym (c .before .joins-at .ensures) ∙ c .if1 .left))
+    (search needs, now .inv .1, none-more _ _ (now .inv .2) (sym (c .before .joins-at .ensures) ∙ c .if1 .left))
 
 returns-2 : tie.Need-returns-2 Inv-loop μ-loop
 returns-2 c =
     let now = c .before .loop in
     let at = c .before .before .before .before in
     let all : now .i ≡ linksOf (at .args .upload .now) = omega arith in (
-      sym
-          (least-none _ _ _
-          (subst (λ (k : ℕ). some k (joins (tableOf (at .args .upload .now)) (at .args .x) (at .args .y)) ≡ false) all (now .inv .2))
-          ∙ sym (now .inv .1)),
+      sym (least-none _ _ _ (none-end _ all (now .inv .2)) ∙ sym (now .inv .1)),
       search needs,
     )
 

@@ -4,9 +4,10 @@ use mathlib.Core.Bool.{false}
 use mathlib.Core.Path.{_≡_, sym, _∙_}
 use native.Mathlib.Omega.{arith}
 use Rattle.counting.specs.Count.{some}
+use Rattle.counting.proofs.Tests.{some-empty, least-found, least-none}
 use Rattle.paper.specs.Upload.{nodesOf}
 use Rattle.automaton.specs.Tried.{shown}
-use Rattle.automaton.proofs.More.{some-none, some-more, some-end, least-found, least-none}
+use Rattle.automaton.proofs.More.{none-more, none-end}
 use Rattle.automaton.proofs.lowest_root.Statement.{statement}
 use Rattle.automaton.proofs.lowest_root.Tie as tie
 
@@ -20,7 +21,7 @@ nodes-requires : tie.Need-nodes-requires Inv-loop μ-loop
 nodes-requires c κs = search needs
 
 loop-holds : tie.Need-loop-holds Inv-loop μ-loop
-loop-holds c = (search needs, c .nodes .ensures .0, some-none _)
+loop-holds c = (search needs, c .nodes .ensures .0, some-empty _)
 
 root-requires : tie.Need-root-requires Inv-loop μ-loop
 root-requires c κs = search needs
@@ -41,14 +42,14 @@ loop-less c = search needs
 loop-again : tie.Need-loop-again Inv-loop μ-loop
 loop-again c =
     let now = c .before .before .before .loop in
-    (search needs, now .inv .1, some-more _ _ (now .inv .2) (sym (c .before .root .ensures) ∙ c .if1 .left))
+    (search needs, now .inv .1, none-more _ _ (now .inv .2) (sym (c .before .root .ensures) ∙ c .if1 .left))
 
 returns-2 : tie.Need-returns-2 Inv-loop μ-loop
 returns-2 c =
     let now = c .before .loop in
     let at = c .before .before .before .before .before in
     let all : now .x ≡ nodesOf (at .args .upload .now) = omega arith in
-    (sym (least-none _ _ _ (some-end _ all (now .inv .2))), search needs)
+    (sym (least-none _ _ _ (none-end _ all (now .inv .2))), search needs)
 
 pub lowest-root-spec : {M : Type 1} → statement M
 lowest-root-spec =

@@ -4,10 +4,11 @@ use mathlib.Core.Bool.{false}
 use mathlib.Core.Path.{_≡_, sym, _∙_}
 use native.Mathlib.Omega.{arith}
 use Rattle.counting.specs.Count.{some}
+use Rattle.counting.proofs.Tests.{some-empty, some-holds}
 use Rattle.paper.specs.Table.{tableOf}
 use Rattle.paper.specs.Upload.{linksOf}
 use Rattle.automaton.specs.Tried.{shown, linkMoves}
-use Rattle.automaton.proofs.More.{some-none, some-more, some-end, some-found}
+use Rattle.automaton.proofs.More.{none-more, none-end}
 use Rattle.automaton.proofs.some_link_moves.Statement.{statement}
 use Rattle.automaton.proofs.some_link_moves.Tie as tie
 
@@ -21,7 +22,7 @@ links-requires : tie.Need-links-requires Inv-loop μ-loop
 links-requires c κs = search needs
 
 loop-holds : tie.Need-loop-holds Inv-loop μ-loop
-loop-holds c = (search needs, c .links .ensures .0, some-none _)
+loop-holds c = (search needs, c .links .ensures .0, some-empty _)
 
 link-moves-requires : tie.Need-link-moves-requires Inv-loop μ-loop
 link-moves-requires c κs = search needs
@@ -31,7 +32,7 @@ returns c =
     let now = c .before .before .before .loop in
     let at = c .before .before .before .before .before .before .before in
     let below : now .i < linksOf (at .args .upload .now) = omega arith in
-    sym (some-found _ _ _ below (sym (c .before .link-moves .ensures) ∙ c .if1 .taken))
+    sym (some-holds _ _ _ below (sym (c .before .link-moves .ensures) ∙ c .if1 .taken))
 
 add-i : tie.Need-add-i Inv-loop μ-loop
 add-i c = search needs
@@ -42,14 +43,14 @@ loop-less c = search needs
 loop-again : tie.Need-loop-again Inv-loop μ-loop
 loop-again c =
     let now = c .before .before .before .loop in
-    (search needs, now .inv .1, some-more _ _ (now .inv .2) (sym (c .before .link-moves .ensures) ∙ c .if1 .left))
+    (search needs, now .inv .1, none-more _ _ (now .inv .2) (sym (c .before .link-moves .ensures) ∙ c .if1 .left))
 
 returns-2 : tie.Need-returns-2 Inv-loop μ-loop
 returns-2 c =
     let now = c .before .loop in
     let at = c .before .before .before .before .before in
     let all : now .i ≡ linksOf (at .args .upload .now) = omega arith in
-    sym (some-end _ all (now .inv .2))
+    sym (none-end _ all (now .inv .2))
 
 pub some-link-moves-spec : {M : Type 1} → statement M
 some-link-moves-spec =

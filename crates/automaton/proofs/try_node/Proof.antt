@@ -4,8 +4,9 @@ use mathlib.Core.Bool.{_&&_, true, false}
 use mathlib.Core.Path.{_≡_}
 use native.Mathlib.Omega.{arith}
 use lib.Dec.{ltb, eqb}
+use Rattle.counting.proofs.Booleans.{and-left}
 use Rattle.paper.specs.Upload.{nodesOf}
-use Rattle.automaton.proofs.Named.{both, tried-not, tried-node}
+use Rattle.automaton.proofs.Named.{tried-not, tried-node}
 use Rattle.automaton.proofs.try_node.Statement.{statement}
 use Rattle.automaton.proofs.try_node.Tie as tie
 
@@ -15,7 +16,7 @@ nodes-requires c κs = search needs
 node-possible-requires : tie.Need-node-possible-requires
 node-possible-requires c κs =
     let at = c .before .before .before .before in
-    let below = ltb-true (at .args .x) (c .before .nodes .result) (both (ltb (at .args .x) (c .before .nodes .result)) (eqb (at .args .y) 255) (c .if1 .taken) .0) in
+    let below = ltb-true (at .args .x) (c .before .nodes .result) (and-left _ _ (c .if1 .taken)) in
     (at .pre, omega arith)
 
 refused-unless-requires : tie.Need-refused-unless-requires

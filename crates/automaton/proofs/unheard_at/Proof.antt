@@ -1,12 +1,13 @@
 use borrow.Author.Needs.{needs}
 use Prim.Native.Nat.{ℕ, _*_, _-_, _≤_}
-use mathlib.Core.Path.{_≡_, sym, ap, _∙_}
+use mathlib.Core.Path.{_≡_, sym, _∙_}
 use native.Mathlib.Omega.{arith}
 use Rattle.counting.specs.Count.{sum}
+use Rattle.counting.proofs.Sums.{sum-empty, sum-more}
 use Rattle.paper.specs.Table.{tableOf}
 use Rattle.paper.specs.Upload.{linksOf}
 use Rattle.automaton.specs.Tried.{shown, lacking}
-use Rattle.automaton.proofs.More.{sum-more, sum-none}
+use Rattle.automaton.proofs.More.{sum-end}
 use Rattle.automaton.proofs.unheard_at.Statement.{statement}
 use Rattle.automaton.proofs.unheard_at.Tie as tie
 
@@ -21,7 +22,7 @@ links-requires : tie.Need-links-requires Inv-loop μ-loop
 links-requires c κs = search needs
 
 loop-holds : tie.Need-loop-holds Inv-loop μ-loop
-loop-holds c = (search needs, c .links .ensures .0, sym (sum-none _), search needs)
+loop-holds c = (search needs, c .links .ensures .0, sym (sum-empty _), search needs)
 
 lacking-on-requires : tie.Need-lacking-on-requires Inv-loop μ-loop
 lacking-on-requires c κs = search needs
@@ -50,7 +51,7 @@ returns c =
     let now = c .before .loop in
     let at = c .before .before .before .before .before in
     let all : now .i ≡ linksOf (at .args .upload .now) = omega arith in (
-      now .inv .2 ∙ ap (λ (k : ℕ). sum k (lacking (tableOf (at .args .upload .now)) (shown (at .args .upload .now) (at .args .image .now)) (at .args .x))) all,
+      now .inv .2 ∙ sum-end _ all,
       omega (arith, at .pre .table .linksFit),
     )
 

@@ -3,10 +3,11 @@ use Prim.Native.Nat.{ℕ, _-_, _≤_}
 use mathlib.Core.Path.{_≡_, sym, ap, _∙_}
 use native.Mathlib.Omega.{arith}
 use Rattle.counting.proofs.Bits.{bit-most}
+use Rattle.counting.proofs.Sums.{sum-empty, sum-more}
 use Rattle.counting.specs.Count.{sum, bit}
 use Rattle.paper.specs.Upload.{nodesOf}
 use Rattle.automaton.specs.Tried.{shown}
-use Rattle.automaton.proofs.More.{sum-none, sum-more, sum-end}
+use Rattle.automaton.proofs.More.{sum-end}
 use Rattle.automaton.proofs.waiting_count.Statement.{statement}
 use Rattle.automaton.proofs.waiting_count.Tie as tie
 
@@ -21,7 +22,7 @@ nodes-requires : tie.Need-nodes-requires Inv-loop μ-loop
 nodes-requires c κs = search needs
 
 loop-holds : tie.Need-loop-holds Inv-loop μ-loop
-loop-holds c = (search needs, c .nodes .ensures .0, sym (sum-none _), search needs)
+loop-holds c = (search needs, c .nodes .ensures .0, sym (sum-empty _), search needs)
 
 waiting-requires : tie.Need-waiting-requires Inv-loop μ-loop
 waiting-requires c κs = search needs

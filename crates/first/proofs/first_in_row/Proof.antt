@@ -66,14 +66,17 @@ loop-again c =
     let now = c .before .before .before .before .loop in
     (search needs, now .inv .1, leads-on _ _ (now .inv .2) (c .before .first-on-link .ensures) (c .if1 .left))
 
+nothing-requires : tie.Need-nothing-requires Inv-loop μ-loop
+nothing-requires c κs = search needs
+
 returns-2 : tie.Need-returns-2 Inv-loop μ-loop
 returns-2 c =
-    let at = c .before .before .before .before .before .before in
-    let now = c .before .loop in
+    let at = c .before .before .before .before .before .before .before in
+    let now = c .before .before .loop in
     let all : now .y ≡ nodesOf (at .args .upload .now) = omega arith in
     leads-as
     (sym (link-entries _ _ (at .args .kind) (at .args .x) (at .pre .0 .table .nodesFit) (at .pre .2) (at .pre .3) (at .pre .4)))
-    (leads-end _ all (now .inv .2))
+    (leads-end _ all (now .inv .2) (c .nothing .ensures))
 
 pub first-in-row-spec : {M : Type 1} → statement M
 first-in-row-spec =
@@ -89,4 +92,5 @@ first-in-row-spec =
     add-y
     loop-less
     loop-again
+    nothing-requires
     returns-2)

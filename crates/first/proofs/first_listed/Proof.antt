@@ -49,12 +49,15 @@ loop-again c =
     let of : ℕ → List ℕ = entriesOf (tableOf (at .args .upload .now)) (shown (at .args .upload .now) (at .args .image .now)) in
     (search needs, leads-on (now .k) (λ (j : ℕ). of (suc j)) (now .inv .1) (leads-as (ap of (add-one (now .k))) (c .before .first-of-kind .ensures)) (c .if1 .left))
 
+nothing-requires : tie.Need-nothing-requires Inv-loop μ-loop
+nothing-requires c κs = search needs
+
 returns-2 : tie.Need-returns-2 Inv-loop μ-loop
 unfolding listed
 returns-2 c =
-    let now = c .before .loop in
+    let now = c .before .before .loop in
     let all : now .k ≡ 5 = omega arith in
-    leads-end _ all (now .inv .1) .is
+    leads-end _ all (now .inv .1) (c .nothing .ensures) .is
 
 pub first-listed-spec : {M : Type 1} → statement M
 first-listed-spec =
@@ -69,4 +72,5 @@ first-listed-spec =
     add-k
     loop-less
     loop-again
+    nothing-requires
     returns-2)

@@ -46,12 +46,15 @@ loop-again c =
     let now = c .before .before .before .loop in
     (search needs, now .inv .1, leads-on _ _ (now .inv .2) (c .before .first-at .ensures) (c .if1 .left))
 
+nothing-requires : tie.Need-nothing-requires Inv-loop μ-loop
+nothing-requires c κs = search needs
+
 returns-2 : tie.Need-returns-2 Inv-loop μ-loop
 returns-2 c =
-    let at = c .before .before .before .before .before in
-    let now = c .before .loop in
+    let at = c .before .before .before .before .before .before in
+    let now = c .before .before .loop in
     let all : now .x ≡ nodesOf (at .args .upload .now) = omega arith in
-    leads-end _ all (now .inv .2)
+    leads-end _ all (now .inv .2) (c .nothing .ensures)
 
 pub first-of-kind-spec : {M : Type 1} → statement M
 first-of-kind-spec =
@@ -66,4 +69,5 @@ first-of-kind-spec =
     add-x
     loop-less
     loop-again
+    nothing-requires
     returns-2)

@@ -24,6 +24,9 @@ end-node-requires c κs =
     let at = c .before .before .before .before in
     (at .pre .0 .table, is-link _ _ (at .args .kind) (at .args .i) (at .args .x) (sym (c .before .may-list .ensures) ∙ c .if1 .taken))
 
+nothing-requires : tie.Need-nothing-requires
+nothing-requires c κs = search needs
+
 returns : tie.Need-returns
 returns c =
     let at = c .before .before .before .before .before in
@@ -33,11 +36,11 @@ returns c =
 
 returns-2 : tie.Need-returns-2
 returns-2 c =
-    let at = c .before .before .before .before in
+    let at = c .before .before .before .before .before in
     leads-no-link _ _ (at .args .kind) (at .args .x) (at .pre .0 .table .nodesFit) (at .pre .1) (at .pre .3) (at .pre .4) (at .args .y) (at .args .i) false (at .pre .2) (at .pre .6)
-    (sym (c .before .may-list .ensures) ∙ c .if1 .left)
+    (sym (c .before .before .may-list .ensures) ∙ c .before .if1 .left) (c .nothing .ensures)
 
 pub first-on-link-spec : {M : Type 1} → statement M
 first-on-link-spec =
     tie.close
-    (tie.spec may-list-requires cast-t9 cast-t10 cast-t11 end-node-requires returns returns-2)
+    (tie.spec may-list-requires cast-t9 cast-t10 cast-t11 end-node-requires nothing-requires returns returns-2)

@@ -1,7 +1,7 @@
 use borrow.Author.Needs.{needs}
 use Prim.Native.Nat.{ℕ, _≤_, _-_}
 use mathlib.Core.Bool.{true, false, _&&_}
-use mathlib.Core.Path.{_≡_, refl, ap, _∙_}
+use mathlib.Core.Path.{_≡_, refl, ap, ap₂, _∙_}
 use native.Mathlib.Omega.{arith}
 use native.Mathlib.Numerals.{add-one}
 use denote.Ref.{now}
@@ -9,7 +9,6 @@ use Rattle.counting.specs.Count.{all}
 use Rattle.paper.specs.Upload.{linksOf}
 use Rattle.paper.specs.Table.{tableOf}
 use Rattle.paper.specs.Image.{soundDirection}
-use Rattle.image.proofs.Judged.{both-same}
 use Rattle.image.proofs.links_sound.Statement.{statement}
 use Rattle.image.proofs.links_sound.Tie as tie
 
@@ -39,7 +38,7 @@ loop-again : tie.Need-loop-again Inv-loop μ-loop
 unfolding all
 loop-again c =
     let at = c .before .before .loop in
-    (search needs, rw (add-one (at .i)) (both-same (at .good) (c .link-sound .result) (at .inv .1) (c .link-sound .ensures)))
+    (search needs, rw (add-one (at .i)) (ap₂ _&&_ (at .inv .1) (c .link-sound .ensures)))
 
 returns : tie.Need-returns Inv-loop μ-loop
 returns c =

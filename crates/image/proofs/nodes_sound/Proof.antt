@@ -1,13 +1,13 @@
 use borrow.Author.Needs.{needs}
 use Prim.Native.Nat.{ℕ, _≤_, _-_}
-use mathlib.Core.Path.{_≡_, refl, ap, _∙_}
+use mathlib.Core.Bool.{_&&_}
+use mathlib.Core.Path.{_≡_, refl, ap, ap₂, _∙_}
 use native.Mathlib.Omega.{arith}
 use native.Mathlib.Numerals.{add-one}
 use lib.Dec.{ltb}
 use denote.Ref.{now}
 use Rattle.counting.specs.Count.{all}
 use Rattle.paper.specs.Upload.{byteAt, nodesOf}
-use Rattle.image.proofs.Judged.{both-same}
 use Rattle.image.proofs.nodes_sound.Statement.{statement}
 use Rattle.image.proofs.nodes_sound.Tie as tie
 
@@ -37,7 +37,7 @@ loop-again : tie.Need-loop-again Inv-loop μ-loop
 unfolding all
 loop-again c =
     let at = c .before .before .loop in
-    (search needs, rw (add-one (at .x)) (both-same (at .good) (c .node-sound .result) (at .inv .1) (c .node-sound .ensures)))
+    (search needs, rw (add-one (at .x)) (ap₂ _&&_ (at .inv .1) (c .node-sound .ensures)))
 
 returns : tie.Need-returns Inv-loop μ-loop
 returns c =
