@@ -46,16 +46,41 @@ fn read_input(buffer: &mut [u8]) -> Input {
 
 // Says on standard error what went wrong.
 fn complain(text: &[u8]) {
-    io::write_all(libc::STDERR_FILENO, text);
+    libc::write(libc::STDERR_FILENO, text);
 }
 
-// Writes the first n bytes of the text to standard output.
+// One write of the bytes of the text from `done` to n, and how many it took.
+fn write_part(text: &[u8], done: usize, n: usize) -> usize
+    requires { ⌜ (done ≤ n) × (n ≤ length (now text)) ⌝ }
+    ensures { λ r. ⌜ done + r ≤ n ⌝ }
+{
+    let rest = &text[done..n];
+    let got = libc::write(libc::STDOUT_FILENO, rest);
+    io::count(got, rest)
+}
+
+// Writes the first n bytes of the text to standard output, and answers whether all were taken.
+fn written(text: &[u8], n: usize) -> bool
+    requires { ⌜ n ≤ length (now text) ⌝ }
+{
+    let mut done = 0;
+    while done < n {
+        let more = write_part(text, done, n);
+        if more == 0 {
+            return false;
+        }
+        done += more;
+    }
+    true
+}
+
+// Prints the first n bytes of the text.
 fn print(text: &[u8], n: usize) {
     if text.len() < n {
         complain(b"replay_batch: the text is longer than its buffer\n");
         return;
     }
-    if !io::write_all(libc::STDOUT_FILENO, &text[..n]) {
+    if !written(text, n) {
         complain(b"replay_batch: writing failed, the answer is not complete\n");
     }
 }
