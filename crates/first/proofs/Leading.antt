@@ -6,17 +6,15 @@ use mathlib.Core.Path.{_≡_, refl, sym, ap, subst, _∙_}
 use native.Mathlib.Numerals.{add-one}
 use native.Mathlib.Omega.{arith}
 use native.Mathlib.Decide.{ℕ-discrete}
-use borrow.Author.Tests.{lt-ltb, ltb-true}
-use lib.Dec.{ltb}
+use borrow.Author.Tests.{lt-ltb}
 use Rattle.counting.specs.Count.{joined}
 use Rattle.paper.specs.Table.{Table}
 use Rattle.paper.specs.State.{State}
 use Rattle.paper.specs.Steps.{possible}
-use Rattle.paper.specs.Actions.{names, reading, nodeStep, linkStep, linkBetween, directionFrom, ofNode, ofLink, entry, entriesAt}
+use Rattle.paper.specs.Actions.{names, reading, nodeStep, ofNode, entry, entriesAt}
 use Rattle.automaton.specs.Tried.{linkRead, endRead}
-use Rattle.automaton.proofs.Named.{node-link, node-end, link-link, link-end}
-use Rattle.listing.specs.Links.{mayList}
-use Rattle.listing.proofs.Entries.{node-entries, link-entry}
+use Rattle.automaton.proofs.Named.{node-link, node-end}
+use Rattle.listing.proofs.Entries.{node-entries}
 use Rattle.first.specs.declared.First.{First}
 use Rattle.first.specs.Leads.{nothing, firstOf, Whole, none, entry as whole, Leads}
 
@@ -50,6 +48,14 @@ joined-from (suc n) i f h e = go (λ below. joined-from n i f below e) (ℕ-disc
         let early = before (omega arith) in
         (early .0 ++ f n, rw (early .1) (append-assoc (f i) (early .0) (f n)))
 
+-- lists that follow one another are empty where each is
+pub joined-empty : (n : ℕ) (f : ℕ → List ℕ) → ((i : ℕ) → i < n → f i ≡ []) → joined n f ≡ []
+unfolding joined
+joined-empty zero f h = refl
+joined-empty (suc n) f h =
+    let before = joined-empty n f (λ i b. h i (omega arith)) in
+    rw (before, h n (omega arith))
+
 pub joined-start : (f : ℕ → List ℕ) → joined 0 f ≡ []
 unfolding joined
 joined-start f = refl
@@ -68,7 +74,7 @@ leads-found {t} {r} n i f below h here e =
 pub leads-end : {t : Table} {r : First} {i n : ℕ} (f : ℕ → List ℕ) → i ≡ n → joined i f ≡ [] → r ≡ nothing → Leads t (joined n f) r
 leads-end f e h is = rw (← e, h) (leads-none is)
 
-leads-step : {t : Table} (kind x y i : ℕ) (b : Bool) (rest : List ℕ) →
+pub leads-step : {t : Table} (kind x y i : ℕ) (b : Bool) (rest : List ℕ) →
     i ≡ linkRead (reading t kind x y) →
     b ≡ endRead (reading t kind x y) →
     Leads t (kind ∷ x ∷ y ∷ rest) (record { found = true; kind = kind; x = x; y = y; link = i; back = b })
@@ -80,14 +86,6 @@ leads-step kind x y i b rest link back =
 
 leads-not : {t : Table} {r : First} (p : Bool) (l : List ℕ) → p ≡ false → r ≡ nothing → Leads t (cond p l []) r
 leads-not p l e is = rw e (leads-none is)
-
--- a link that may be listed is one
-pub is-link : (t : Table) (s : State) (kind i x : ℕ) → mayList t s kind i x ≡ true → i < t .links
-is-link t s kind i x e = ltb-true i (t .links) (go (ltb i (t .links)) _ e)
-  where
-    go : (g p : Bool) → cond g p false ≡ true → g ≡ true
-    go true p h = refl
-    go false p h = h
 
 module _ (t : Table) (s : State) (kind x : ℕ) (small : t .nodes ≤ 63) (below : x < t .nodes) where
   pub leads-node : ofNode kind ≡ true →
@@ -108,29 +106,8 @@ module _ (t : Table) (s : State) (kind x : ℕ) (small : t .nodes ≤ 63) (below
       Leads t (entriesAt t s kind x) r
   leads-no-node e may is = rw (node-entries t s kind x small below e) (leads-not _ _ may is)
 
-  module _ (e : ofNode kind ≡ false) (f : ofLink kind ≡ true) (y i : ℕ) (b : Bool) (within : y < t .nodes) (between : i ≡ linkBetween t x y) where
-    pub leads-link : mayList t s kind i x ≡ true →
-        b ≡ directionFrom t i x →
-        Leads t (entry t s kind x y) (record { found = true; kind = kind; x = x; y = y; link = i; back = b })
-    unfolding reading
-    leads-link may way =
-        let read : reading t kind x y ≡ names (linkStep kind i (directionFrom t i x)) =
-        rw (
-          e,
-          f,
-          lt-ltb x (t .nodes) below,
-          lt-ltb y (t .nodes) within,
-          ← between,
-          lt-ltb i (t .links) (is-link t s kind i x may),
-        ) in
-        rw (link-entry t s kind x small below e f y within, ← between, may)
-        (leads-step kind x y i b []
-        (sym (ap linkRead read ∙ link-link kind i (directionFrom t i x)))
-        (way ∙ sym (ap endRead read ∙ link-end kind i (directionFrom t i x))))
-
-    pub leads-no-link : {r : First} → mayList t s kind i x ≡ false → r ≡ nothing → Leads t (entry t s kind x y) r
-    leads-no-link may is =
-        rw (link-entry t s kind x small below e f y within, ← between) (leads-not _ _ may is)
-
 pub leads-as : {t : Table} {l k : List ℕ} {r : First} → l ≡ k → Leads t l r → Leads t k r
 leads-as {t} {l} {k} {r} e h = subst (λ (j : List ℕ). Leads t j r) e h
+
+pub leads-is : {t : Table} {l : List ℕ} {r q : First} → r ≡ q → Leads t l q → Leads t l r
+leads-is e h = record { is = e ∙ h .is; whole = h .whole }

@@ -1,3 +1,5 @@
 pub mod Leading
 pub mod Found
 pub mod Unique
+pub mod Least
+pub mod Directions

@@ -1,14 +1,15 @@
 // The first possible step of a lent image.
 ghost use mathlib.Core.Path.{_≡_};
 ghost use mathlib.Core.Bool.{true, false};
-ghost use Prim.Native.Nat.{_<_, _≤_};
-ghost use Rattle.paper.specs.Upload.{nodesOf};
+ghost use Prim.Native.Nat.{_+_, _*_, _<_, _≤_};
+ghost use Rattle.paper.specs.Upload.{nodesOf, linksOf};
 ghost use Rattle.paper.specs.Table.{tableOf};
-ghost use Rattle.paper.specs.Actions.{linkBetween, ofNode, ofLink, entry, entriesAt, entriesOf, listed};
+ghost use Rattle.paper.specs.Actions.{ofNode, ofLink, entriesAt, entriesOf, listed};
+ghost use Rattle.table.specs.Accepted.{Accepted};
 ghost use Rattle.marks.specs.Lent.{Lent};
 ghost use Rattle.automaton.specs.Tried.{shown};
-ghost use Rattle.listing.specs.Links.{Noted};
 ghost use Rattle.first.specs.Leads.{nothing, firstOf, Leads};
+ghost use Rattle.first.specs.Places.{number, place, entryOn, Nearest};
 
 // The first entry of the list, with the direction that it names; 0 and false where nothing is found.
 pub struct First {
@@ -53,62 +54,95 @@ fn first_at_node(upload: &[u8], image: &[u8], kind: usize, x: usize) -> First
     }
 }
 
-// The entry of kinds 2 to 4 from x to y; i is the link between them.
-fn first_on_link(upload: &[u8], image: &[u8], kind: usize, x: usize, y: usize, i: usize) -> First
-    requires { ⌜ Lent (now upload) (now image) × (x < nodesOf (now upload)) × (y < nodesOf (now upload)) × (ofNode kind ≡ false) × (ofLink kind ≡ true) × (kind ≤ 5) × (i ≡ linkBetween (tableOf (now upload)) x y) ⌝ }
-    ensures { λ r. ⌜ Leads (tableOf (now (upload .entry))) (entry (tableOf (now (upload .entry))) (shown (now (upload .entry)) (now (image .entry))) kind x y) r ⌝ }
-{
-    if listing::may_list(upload, image, kind, i, x) {
-        First {
-            found: true,
-            kind: kind as u8,
-            x: x as u8,
-            y: y as u8,
-            link: i,
-            back: !(automaton::end_node(upload, i, false) == x),
-        }
-    } else {
-        nothing()
-    }
-}
-
-// The first entry of kinds 2 to 4 from x, with a table of the links from x.
-fn first_in_row(upload: &[u8], image: &[u8], table: &[u8], kind: usize, x: usize) -> First
-    requires { ⌜ Lent (now upload) (now image) × Noted (tableOf (now upload)) x 0 (now table) × (x < nodesOf (now upload)) × (ofNode kind ≡ false) × (ofLink kind ≡ true) × (kind ≤ 5) ⌝ }
-    ensures { λ r. ⌜ Leads (tableOf (now (upload .entry))) (entriesAt (tableOf (now (upload .entry))) (shown (now (upload .entry)) (now (image .entry))) kind x) r ⌝ }
+// The first entry of kind 1 or 5.
+fn first_at_nodes(upload: &[u8], image: &[u8], kind: usize) -> First
+    requires { ⌜ Lent (now upload) (now image) × (ofNode kind ≡ true) × (kind ≤ 5) ⌝ }
+    ensures { λ r. ⌜ Leads (tableOf (now (upload .entry))) (entriesOf (tableOf (now (upload .entry))) (shown (now (upload .entry)) (now (image .entry))) kind) r ⌝ }
 {
     let n = upload::nodes(upload);
-    let mut y: usize = 0;
-    while y < n {
-        let here = first_on_link(upload, image, kind, x, y, upload::byte(table, y));
+    let mut x: usize = 0;
+    while x < n {
+        let here = first_at_node(upload, image, kind, x);
         if here.found {
             return here;
         }
-        y += 1;
+        x += 1;
     }
     nothing()
 }
 
-// The first entry of kinds 2 to 4 from x.
-fn first_from(upload: &[u8], image: &[u8], kind: usize, x: usize) -> First
-    requires { ⌜ Lent (now upload) (now image) × (x < nodesOf (now upload)) × (ofNode kind ≡ false) × (ofLink kind ≡ true) × (kind ≤ 5) ⌝ }
-    ensures { λ r. ⌜ Leads (tableOf (now (upload .entry))) (entriesAt (tableOf (now (upload .entry))) (shown (now (upload .entry)) (now (image .entry))) kind x) r ⌝ }
+// Where a direction of link i stands: by its source, then its target; its own number comes last.
+fn place(upload: &[u8], i: usize, back: bool) -> usize
+    requires { ⌜ Accepted (now upload) × (i < linksOf (now upload)) ⌝ }
+    ensures { λ r. ⌜ r ≡ place (tableOf (now (upload .entry))) i back ⌝ }
 {
-    let m = upload::links(upload) as u8;
-    let mut table = [m; 64];
-    listing::note_links(upload, &mut table, x);
-    first_in_row(upload, image, &table, kind, x)
+    65536 * automaton::end_node(upload, i, back)
+        + 256 * automaton::end_node(upload, i, !back)
+        + (2 * i + back as usize)
 }
 
-// The first entry of one kind at x.
-fn first_at(upload: &[u8], image: &[u8], kind: usize, x: usize) -> First
-    requires { ⌜ Lent (now upload) (now image) × (x < nodesOf (now upload)) × (1 ≤ kind) × (kind ≤ 5) ⌝ }
-    ensures { λ r. ⌜ Leads (tableOf (now (upload .entry))) (entriesAt (tableOf (now (upload .entry))) (shown (now (upload .entry)) (now (image .entry))) kind x) r ⌝ }
+// The least place, of that so far and a direction of link i, which counts where its step is possible.
+fn lesser_place(
+    upload: &[u8],
+    image: &[u8],
+    kind: usize,
+    i: usize,
+    back: bool,
+    best: usize,
+) -> usize
+    requires { ⌜ Lent (now upload) (now image) × (i < linksOf (now upload)) × Nearest (tableOf (now upload)) (shown (now upload) (now image)) kind (number i back) best ⌝ }
+    ensures { λ r. ⌜ Nearest (tableOf (now (upload .entry))) (shown (now (upload .entry)) (now (image .entry))) kind (number i back + 1) r ⌝ }
 {
-    if (kind == 1) | (kind == 5) {
-        first_at_node(upload, image, kind, x)
+    if automaton::link_possible(upload, image, kind, i, back) {
+        let here = place(upload, i, back);
+        if here < best { here } else { best }
     } else {
-        first_from(upload, image, kind, x)
+        best
+    }
+}
+
+// The least place of a direction on which the step of kinds 2 to 4 is possible; 64 * 65536, behind all places, where there is none.
+fn least_place(upload: &[u8], image: &[u8], kind: usize) -> usize
+    requires { ⌜ Lent (now upload) (now image) ⌝ }
+    ensures { λ r. ⌜ Nearest (tableOf (now (upload .entry))) (shown (now (upload .entry)) (now (image .entry))) kind (2 * linksOf (now (upload .entry))) r ⌝ }
+{
+    let m = upload::links(upload);
+    let mut best: usize = 4194304;
+    let mut i: usize = 0;
+    while i < m {
+        let there = lesser_place(upload, image, kind, i, false, best);
+        let back = lesser_place(upload, image, kind, i, true, there);
+        best = back;
+        i += 1;
+    }
+    best
+}
+
+// The entry of kinds 2 to 4 on a direction of link i.
+fn entry_on(upload: &[u8], kind: usize, i: usize, back: bool) -> First
+    requires { ⌜ Accepted (now upload) × (i < linksOf (now upload)) × (kind ≤ 5) ⌝ }
+    ensures { λ r. ⌜ r ≡ entryOn (tableOf (now (upload .entry))) kind i back ⌝ }
+{
+    First {
+        found: true,
+        kind: kind as u8,
+        x: automaton::end_node(upload, i, back) as u8,
+        y: automaton::end_node(upload, i, !back) as u8,
+        link: i,
+        back: back,
+    }
+}
+
+// The first entry of kinds 2 to 4.
+fn first_on_links(upload: &[u8], image: &[u8], kind: usize) -> First
+    requires { ⌜ Lent (now upload) (now image) × (ofNode kind ≡ false) × (ofLink kind ≡ true) × (kind ≤ 5) ⌝ }
+    ensures { λ r. ⌜ Leads (tableOf (now (upload .entry))) (entriesOf (tableOf (now (upload .entry))) (shown (now (upload .entry)) (now (image .entry))) kind) r ⌝ }
+{
+    let best = least_place(upload, image, kind);
+    if best < 4194304 {
+        entry_on(upload, kind, best % 256 / 2, best % 2 == 1)
+    } else {
+        nothing()
     }
 }
 
@@ -117,16 +151,11 @@ fn first_of_kind(upload: &[u8], image: &[u8], kind: usize) -> First
     requires { ⌜ Lent (now upload) (now image) × (1 ≤ kind) × (kind ≤ 5) ⌝ }
     ensures { λ r. ⌜ Leads (tableOf (now (upload .entry))) (entriesOf (tableOf (now (upload .entry))) (shown (now (upload .entry)) (now (image .entry))) kind) r ⌝ }
 {
-    let n = upload::nodes(upload);
-    let mut x: usize = 0;
-    while x < n {
-        let here = first_at(upload, image, kind, x);
-        if here.found {
-            return here;
-        }
-        x += 1;
+    if (kind == 1) | (kind == 5) {
+        first_at_nodes(upload, image, kind)
+    } else {
+        first_on_links(upload, image, kind)
     }
-    nothing()
 }
 
 // The first entry of the list.
