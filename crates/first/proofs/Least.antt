@@ -1,7 +1,6 @@
 -- The least place of a direction on which a step is possible, direction by direction.
 use Prim.Native.Nat.{ℕ, _+_, _<_, _≤_}
 use mathlib.Core.Bool.{Bool, true, false}
-use mathlib.Core.List.{[]}
 use mathlib.Core.Path.{_≡_, refl, sym, subst, subst₂}
 use native.Mathlib.Omega.{arith}
 use native.Mathlib.Decide.{ℕ-discrete}
@@ -9,7 +8,7 @@ use Rattle.counting.proofs.Booleans.{clash}
 use Rattle.paper.specs.Table.{Table}
 use Rattle.paper.specs.State.{State}
 use Rattle.paper.specs.Steps.{possible}
-use Rattle.paper.specs.Actions.{linkStep, names}
+use Rattle.paper.specs.Actions.{linkStep}
 use Rattle.first.specs.Places.{number, place, Candidate, none, direction, Nearest}
 
 -- a number names one direction
