@@ -63,7 +63,11 @@ fn may_know_children(upload: &[u8], image: &[u8], x: usize) -> bool
     requires { ⌜ Lent (now upload) (now image) × (x < nodesOf (now upload)) ⌝ }
     ensures { λ r. ⌜ r ≡ possible (tableOf (now (upload .entry))) (shown (now (upload .entry)) (now (image .entry))) (childrenKnown x) ⌝ }
 {
-    marks::waiting(upload, image, x) & (unheard_at(upload, image, x).count <= 1)
+    if marks::waiting(upload, image, x) {
+        unheard_at(upload, image, x).count <= 1
+    } else {
+        false
+    }
 }
 
 // Kind 2 is possible on a direction of link i.

@@ -63,7 +63,7 @@ fn note_link(table: &mut [u8], x: usize, i: usize, a: usize, b: usize)
 }
 
 // Notes every link at the node that it joins to x, in a table that holds m at each node.
-pub fn note_links(upload: &[u8], table: &mut [u8], x: usize)
+fn note_links(upload: &[u8], table: &mut [u8], x: usize)
     requires { ⌜ Accepted (now upload) × Noted (tableOf (now upload)) x (linksOf (now upload)) (now table) ⌝ }
     ensures { λ _. ⌜ Noted (tableOf (now (upload .entry))) x 0 (now (table .exit)) ⌝ }
 {
@@ -81,7 +81,7 @@ pub fn note_links(upload: &[u8], table: &mut [u8], x: usize)
 }
 
 // The step of kinds 2 to 4 on link i from x is possible, where i is a link.
-pub fn may_list(upload: &[u8], image: &[u8], kind: usize, i: usize, x: usize) -> bool
+fn may_list(upload: &[u8], image: &[u8], kind: usize, i: usize, x: usize) -> bool
     requires { ⌜ Lent (now upload) (now image) ⌝ }
     ensures { λ r. ⌜ r ≡ mayList (tableOf (now (upload .entry))) (shown (now (upload .entry)) (now (image .entry))) kind i x ⌝ }
 {

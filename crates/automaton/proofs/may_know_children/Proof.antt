@@ -1,4 +1,5 @@
 use borrow.Author.Needs.{needs}
+use mathlib.Core.Path.{refl, sym, _∙_}
 use Rattle.automaton.proofs.Possible.{knows}
 use Rattle.automaton.proofs.may_know_children.Statement.{statement}
 use Rattle.automaton.proofs.may_know_children.Tie as tie
@@ -11,8 +12,15 @@ unheard-at-requires c κs = search needs
 
 returns : tie.Need-returns
 returns c =
-    let at = c .before .before .before .before .before in
-    knows _ _ (at .args .x) (at .pre .1) (c .before .before .waiting .ensures) (c .before .unheard-at .ensures .0)
+    let w = c .before .before .before in
+    let at = w .before .before .before in
+    knows _ _ (at .args .x) (at .pre .1) (sym (c .before .before .if1 .taken) ∙ w .waiting .ensures) (c .before .unheard-at .ensures .0)
+
+returns-2 : tie.Need-returns-2
+returns-2 c =
+    let w = c .before in
+    let at = w .before .before .before in
+    knows _ _ (at .args .x) (at .pre .1) (sym (c .if1 .left) ∙ w .waiting .ensures) refl
 
 pub may-know-children-spec : {M : Type 1} → statement M
-may-know-children-spec = tie.close (tie.spec waiting-requires unheard-at-requires returns)
+may-know-children-spec = tie.close (tie.spec waiting-requires unheard-at-requires returns returns-2)
