@@ -1,0 +1,63 @@
+// The lines about saved uploads as bytes, each into a lent buffer: its length, or 0 and nothing written where it has no room.
+ghost use mathlib.Core.Path.{_≡_};
+ghost use mathlib.Core.List.{_++_};
+ghost use lib.ListN.{length};
+ghost use Prim.Native.Nat.{_+_, _≤_};
+ghost use Rattle.lines.specs.Wrote.{Wrote};
+ghost use Rattle.saved.specs.Placed.{Placed};
+ghost use Rattle.saved.specs.Saved.{tooLong, answerLine, unopenedLine, unreadLine, tooLongLine};
+
+// Some bytes from a place on, where there is room for them.
+fn put(bytes: &[u8], out: &mut [u8], at: usize) -> usize
+    requires { ⌜ at + length (now bytes) ≤ length (now out) ⌝ }
+    ensures { λ r. ⌜ Wrote (now (out .entry)) at (now (bytes .entry)) (now (out .exit)) r ⌝ }
+{
+    let mut i = 0;
+    while i < bytes.len() {
+        out[at + i] = bytes[i];
+        i += 1;
+    }
+    at + bytes.len()
+}
+
+// One text and another behind it.
+fn joined(first: &[u8], second: &[u8], out: &mut [u8]) -> usize
+    ensures { λ r. ⌜ Placed (now (first .entry) ++ now (second .entry)) (now (out .entry)) (now (out .exit)) r ⌝ }
+{
+    if out.len() < first.len() {
+        return 0;
+    }
+    if out.len() - first.len() < second.len() {
+        return 0;
+    }
+    let middle = put(first, out, 0);
+    put(second, out, middle)
+}
+
+// Whether a file has more bytes than any upload.
+pub fn too_long(bytes: &[u8]) -> bool
+    ensures { λ r. ⌜ r ≡ tooLong (now (bytes .entry)) ⌝ }
+{
+    3328 < bytes.len()
+}
+
+// The line of a file that cannot be opened.
+pub fn unopened_line(name: &[u8], out: &mut [u8]) -> usize
+    ensures { λ r. ⌜ Placed (unopenedLine (now (name .entry))) (now (out .entry)) (now (out .exit)) r ⌝ }
+{
+    joined(name, b": cannot be opened\n", out)
+}
+
+// The line of a file that cannot be read to its end.
+pub fn unread_line(name: &[u8], out: &mut [u8]) -> usize
+    ensures { λ r. ⌜ Placed (unreadLine (now (name .entry))) (now (out .entry)) (now (out .exit)) r ⌝ }
+{
+    joined(name, b": cannot be read\n", out)
+}
+
+// The line of a file that is longer than any upload.
+pub fn too_long_line(name: &[u8], out: &mut [u8]) -> usize
+    ensures { λ r. ⌜ Placed (tooLongLine (now (name .entry))) (now (out .entry)) (now (out .exit)) r ⌝ }
+{
+    joined(name, b": longer than any upload\n", out)
+}
