@@ -1,11 +1,12 @@
 // The lines about saved uploads as bytes, each into a lent buffer: its length, or 0 and nothing written where it has no room.
 ghost use mathlib.Core.Path.{_≡_};
 ghost use mathlib.Core.List.{_++_};
-ghost use lib.ListN.{length};
-ghost use Prim.Native.Nat.{_+_, _≤_};
+ghost use lib.ListN.{length, take, drop};
+ghost use Prim.Native.Nat.{_+_, _-_, _<_, _≤_};
 ghost use Rattle.lines.specs.Wrote.{Wrote};
 ghost use Rattle.saved.specs.Placed.{Placed};
 ghost use Rattle.saved.specs.Saved.{tooLong, answerLine, unopenedLine, unreadLine, tooLongLine};
+ghost use Rattle.paper.specs.Lines.{lineOf};
 
 // Some bytes from a place on, where there is room for them.
 fn put(bytes: &[u8], out: &mut [u8], at: usize) -> usize
@@ -60,4 +61,33 @@ pub fn too_long_line(name: &[u8], out: &mut [u8]) -> usize
     ensures { λ r. ⌜ Placed (tooLongLine (now (name .entry))) (now (out .entry)) (now (out .exit)) r ⌝ }
 {
     joined(name, b": longer than any upload\n", out)
+}
+
+// An answer's line as that of entry 0, at a buffer's start.
+fn entry(answer: paper::Answer, out: &mut [u8]) -> usize
+    requires { ⌜ 64 ≤ length (now out) ⌝ }
+    ensures { λ r. ⌜ (take r (now (out .exit)) ≡ lineOf 0 answer) × (0 < r) × (r ≤ 64) ⌝ }
+{
+    let answers = [answer; 64];
+    let done = lines::write(answers, 1, out);
+    done.steps as usize
+}
+
+// A name, and the first n bytes of a text but its first.
+fn behind(name: &[u8], text: &[u8], n: usize, out: &mut [u8]) -> usize
+    requires { ⌜ (0 < n) × (n ≤ length (now text)) ⌝ }
+    ensures { λ r. ⌜ Placed (now (name .entry) ++ take (n - 1) (drop 1 (now (text .entry)))) (now (out .entry)) (now (out .exit)) r ⌝ }
+{
+    let start = 1;
+    joined(name, &text[start..n], out)
+}
+
+// The line of a file that holds an upload.
+pub fn answer_line(name: &[u8], upload: &[u8], out: &mut [u8]) -> usize
+    ensures { λ r. ⌜ Placed (answerLine (now (name .entry)) (now (upload .entry))) (now (out .entry)) (now (out .exit)) r ⌝ }
+{
+    let answer = replay::replay(upload);
+    let mut text = [0u8; 64];
+    let n = entry(answer, &mut text);
+    behind(name, &text, n, out)
 }
