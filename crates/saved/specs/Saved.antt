@@ -51,11 +51,14 @@ wide k = digits 19 k
 unfoldable pub progressLine : ℕ → List ℕ
 progressLine files = wide files ++ (32 ∷ 102 ∷ 105 ∷ 108 ∷ 101 ∷ 115 ∷ newline ∷ [])
 
--- `answered `, a number, `, not read `, a number and a newline
+-- `answered `
+abbrev pub answeredWord : List ℕ
+answeredWord = 97 ∷ 110 ∷ 115 ∷ 119 ∷ 101 ∷ 114 ∷ 101 ∷ 100 ∷ 32 ∷ []
+
+-- `, not read `
+abbrev pub unreadWords : List ℕ
+unreadWords = 44 ∷ 32 ∷ 110 ∷ 111 ∷ 116 ∷ 32 ∷ 114 ∷ 101 ∷ 97 ∷ 100 ∷ 32 ∷ []
+
+-- the last line: how many files were answered, how many were not read, and a newline
 unfoldable pub totalsLine : ℕ → ℕ → List ℕ
-totalsLine answered unread =
-    (97 ∷ 110 ∷ 115 ∷ 119 ∷ 101 ∷ 114 ∷ 101 ∷ 100 ∷ 32 ∷ [])
-    ++ wide answered
-    ++ (44 ∷ 32 ∷ 110 ∷ 111 ∷ 116 ∷ 32 ∷ 114 ∷ 101 ∷ 97 ∷ 100 ∷ 32 ∷ [])
-    ++ wide unread
-    ++ (newline ∷ [])
+totalsLine answered unread = answeredWord ++ wide answered ++ unreadWords ++ wide unread ++ (newline ∷ [])

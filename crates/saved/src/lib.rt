@@ -3,9 +3,10 @@ ghost use mathlib.Core.Path.{_≡_};
 ghost use mathlib.Core.List.{_++_};
 ghost use lib.ListN.{length, take, drop};
 ghost use Prim.Native.Nat.{_+_, _-_, _<_, _≤_};
+ghost use Rattle.io.specs.Counts.{Counts};
 ghost use Rattle.lines.specs.Wrote.{Wrote};
 ghost use Rattle.saved.specs.Placed.{Placed};
-ghost use Rattle.saved.specs.Saved.{tooLong, answerLine, unopenedLine, unreadLine, tooLongLine};
+ghost use Rattle.saved.specs.Saved.{tooLong, wide, answerLine, unopenedLine, unreadLine, tooLongLine, progressLine, totalsLine};
 ghost use Rattle.paper.specs.Lines.{lineOf};
 
 // Some bytes from a place on, where there is room for them.
@@ -90,4 +91,43 @@ pub fn answer_line(name: &[u8], upload: &[u8], out: &mut [u8]) -> usize
     let mut text = [0u8; 64];
     let n = entry(answer, &mut text);
     behind(name, &text, n, out)
+}
+
+// A number in decimal, at an array's start.
+fn spelled(k: u64, out: &mut [u8; 20]) -> usize
+    ensures { λ r. ⌜ (take r (now (out .exit)) ≡ wide k) × Counts r (now (out .exit)) × (r ≤ 20) ⌝ }
+{
+    io::decimal(k, out)
+}
+
+// A number between two texts, at a buffer's start.
+fn counted(front: &[u8], k: u64, rest: &[u8], out: &mut [u8]) -> usize
+    requires { ⌜ length (now front) + 20 + length (now rest) ≤ length (now out) ⌝ }
+    ensures { λ r. ⌜ (take r (now (out .exit)) ≡ now (front .entry) ++ wide k ++ now (rest .entry)) × Counts r (now (out .exit)) ⌝ }
+{
+    let mut digits = [0u8; 20];
+    let n = spelled(k, &mut digits);
+    let first = put(front, out, 0);
+    let second = put(&digits[..n], out, first);
+    put(rest, out, second)
+}
+
+// How far it has come: a number of files.
+pub fn progress_line(files: u64, out: &mut [u8]) -> usize
+    ensures { λ r. ⌜ Placed (progressLine files) (now (out .entry)) (now (out .exit)) r ⌝ }
+{
+    let mut digits = [0u8; 20];
+    let n = spelled(files, &mut digits);
+    joined(&digits[..n], b" files\n", out)
+}
+
+// The last line: how many files were answered, and how many were not read.
+pub fn totals_line(answered: u64, unread: u64, out: &mut [u8]) -> usize
+    ensures { λ r. ⌜ Placed (totalsLine answered unread) (now (out .entry)) (now (out .exit)) r ⌝ }
+{
+    let mut first = [0u8; 64];
+    let m = counted(b"answered ", answered, b", not read ", &mut first);
+    let mut second = [0u8; 64];
+    let n = counted(b"", unread, b"\n", &mut second);
+    joined(&first[..m], &second[..n], out)
 }
