@@ -1,0 +1,4 @@
+pub mod Placing
+pub mod Numbers
+pub mod Decimal
+pub mod Unique
