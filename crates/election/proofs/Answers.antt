@@ -25,8 +25,7 @@ use Rattle.paper.proofs.Images.{sound-fresh}
 use Rattle.paper.proofs.Moving.{moving-still}
 use Rattle.table.specs.Accepted.{Accepted}
 use Rattle.table.proofs.Laws.{accepted-laws}
-use Rattle.election.specs.Demand.{reachedBy, Ended, Demand}
-use Rattle.election.specs.Logs.{RunnerStops, RunnerEnds, RunAnswers, ReplayAnswers, EntryAnswers, Calls}
+use Rattle.election.specs.Demand.{reachedBy, Ended, Demand, RunnerStops, RunnerEnds, RunAnswers, ReplayAnswers, EntryAnswers, Calls}
 use Rattle.election.proofs.Election.{few-roots, demand}
 use Rattle.election.proofs.Replays.{replay-run}
 use Rattle.election.proofs.Runner.{runs, runner-still}

@@ -20,8 +20,7 @@ use Rattle.paper.specs.Examples.{twoLoops, tail}
 use Rattle.paper.proofs.Tests.{all-true, clash}
 use Rattle.paper.proofs.OnePiece.{one-piece}
 use Rattle.paper.proofs.Moving.{moving-still}
-use Rattle.election.specs.Demand.{reachedBy}
-use Rattle.election.specs.Logs.{NamesFrom, LogIsRun, IsLogOf}
+use Rattle.election.specs.Demand.{reachedBy, NamesFrom, LogIsRun, IsLogOf}
 use Rattle.election.specs.Examples.{chainRun, contendingRun, loopRun, tailRun, Example, Elects, Sticks, Examples}
 use Rattle.election.proofs.AddedUp.{Without, With, chain-adds-up, contending-adds-up, loop-adds-up, tail-adds-up, between-adds-up, links-adds-up}
 use Rattle.election.proofs.Election.{end-stuck}

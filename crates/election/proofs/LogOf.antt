@@ -24,8 +24,7 @@ use Rattle.table.specs.Accepted.{Accepted}
 use Rattle.table.specs.ExactlyWhen.{LinkPasses}
 use Rattle.table.proofs.ExactlyWhen.{exactly-when, passes-all}
 use Rattle.table.proofs.Laws.{accepted-laws}
-use Rattle.election.specs.Demand.{reachedBy}
-use Rattle.election.specs.Logs.{NamesFrom, Bytes, IsLogOf}
+use Rattle.election.specs.Demand.{reachedBy, NamesFrom, Bytes, IsLogOf}
 use Rattle.election.proofs.Election.{few-steps}
 use Rattle.election.proofs.Alike.{SameEnds, taken-alike, outcome-alike}
 use Rattle.election.proofs.Replays.{takes-all}

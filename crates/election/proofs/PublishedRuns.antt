@@ -15,7 +15,7 @@ use Rattle.paper.specs.State.{none, State, fresh}
 use Rattle.paper.specs.Steps.{Step, unheard, after, Run}
 use Rattle.paper.proofs.Tests.{clash}
 use Rattle.election.specs.Local.{Local}
-use Rattle.election.specs.Invariants.{Published, AllChild, OneAllChild}
+use Rattle.election.specs.Invariants.{Published, AllChild, OneAllChild, Invariants}
 use Rattle.election.proofs.Updates.{fails, passes, either, target-back}
 use Rattle.election.proofs.Messages.{loaded}
 use Rattle.election.proofs.OneUnheard.{rest-child}
@@ -88,3 +88,8 @@ one-all-child-run t one below apart joined xs run v w lv lw p q =
     few : Left t s → full t s ≤ 1
     few (inl z) = omega arith
     few (inr o) = omega arith
+
+-- all published invariants hold in every state that a run reaches
+pub invariants-run : (t : Table) → 1 ≤ t .nodes → EndsBelow t → NoSelfLink t → OnePiece t → (xs : List Step) → Run t xs → Invariants t (after t (fresh t) xs)
+invariants-run t one below apart joined xs run =
+    record { ofEveryTable = published-run t below xs run; i15 = one-all-child-run t one below apart joined xs run }

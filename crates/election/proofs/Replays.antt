@@ -18,7 +18,7 @@ use Rattle.paper.specs.Calls.{Replayed, actionOf, replayFrom, replayed}
 use Rattle.paper.proofs.Tests.{either, clash, and-left, and-right, and-both}
 use Rattle.paper.proofs.Kept.{possible-taken}
 use Rattle.paper.proofs.Readings.{Read, at-node, on-link, not-read, read}
-use Rattle.election.specs.Logs.{NamesFrom, ReplayIsRun}
+use Rattle.election.specs.Demand.{NamesFrom, ReplayIsRun}
 
 -- an action names a possible step, or is refused
 abbrev pub Tried : Table → State → Reading → Type 0

@@ -16,7 +16,7 @@ use Rattle.paper.specs.Meanings.{NoRepeat, Stands, Ascending, ListsSteps}
 use Rattle.paper.proofs.Tests.{and-both}
 use Rattle.paper.proofs.Moving.{moving-still}
 use Rattle.paper.proofs.Listed.{lists-steps}
-use Rattle.election.specs.Logs.{RunnerStops, RunnerAlwaysStops}
+use Rattle.election.specs.Demand.{RunnerStops, RunnerAlwaysStops}
 use Rattle.election.proofs.Ends.{runs-end}
 use Rattle.election.proofs.Furthest.{some-step}
 use Rattle.election.proofs.Replays.{Tried, tried}

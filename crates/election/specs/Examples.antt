@@ -9,8 +9,7 @@ use Rattle.paper.specs.Steps.{Step, childrenKnown, addChild, acknowledge, resol
 use Rattle.paper.specs.Stuck.{Stuck, size, border}
 use Rattle.paper.specs.Replays.{P3, P8, P9, P10, P12-table}
 use Rattle.paper.specs.Examples.{twoLoops, tail}
-use Rattle.election.specs.Demand.{reachedBy, Ended, RunWithoutLoop, EndWithoutLoop, RunWithLoop, EndWithLoop}
-use Rattle.election.specs.Logs.{LogIsRun, IsLogOf}
+use Rattle.election.specs.Demand.{reachedBy, Ended, RunWithoutLoop, EndWithoutLoop, RunWithLoop, EndWithLoop, LogIsRun, IsLogOf}
 
 -- P9: a chain of three
 abbrev pub chainRun : List Step

@@ -8,7 +8,7 @@ use Rattle.paper.specs.State.{none, request, acknowledgement, State}
 
 -- The published names: init is waiting, contention is contending, mq[e] is the message on e, its head is true for an acknowledgement
 -- and false for a request, and the reverse of e = (i, b) is (i, not b). Two numbers are left out: 5 says that a direction carries at
--- most one message, which the type of message says already; 15 stands below, because it speaks of all nodes together.
+-- most one message, which the type of message says already; 15 stands below, because it speaks of all nodes together; `Invariants` is the whole list.
 pub record Published (t : Table) (s : State) : Type 0 where
   -- a node that waits does not contend
   pub i1 : (v : ℕ) → v < t .nodes → s .waiting v ≡ true → s .contending v ≡ false
@@ -48,3 +48,8 @@ AllChild t s v = (i : ℕ) (b : Bool) → i < t .links → target t i b ≡ v �
 -- 15: at most one node has child on every direction into it
 abbrev pub OneAllChild : Table → State → Type 0
 OneAllChild t s = (v w : ℕ) → v < t .nodes → w < t .nodes → AllChild t s v → AllChild t s w → v ≡ w
+
+-- The published invariants as one list:
+pub record Invariants (t : Table) (s : State) : Type 0 where
+  pub ofEveryTable : Published t s
+  pub i15 : OneAllChild t s
