@@ -7,6 +7,7 @@ use Rattle.upload.proofs.nodes
 use Rattle.upload.proofs.links
 use Rattle.upload.proofs.actions
 use Rattle.upload.proofs.end
+use Rattle.upload.proofs.joins
 
 pub byte-determined : Determined byte.Kinds.ps byte.Kinds.r byte.Reads.Pre byte.Reads.Learnt
 byte-determined κs a pre z z′ w w′ p q = (same (p .0) (q .0), refl)
@@ -22,3 +23,6 @@ actions-determined κs a pre z z′ w w′ p q = (same (p .0) (q .0), refl)
 
 pub end-determined : Determined end.Kinds.ps end.Kinds.r end.Reads.Pre end.Reads.Learnt
 end-determined κs a pre z z′ w w′ p q = (same (p .0) (q .0), refl)
+
+pub joins-determined : Determined joins.Kinds.ps joins.Kinds.r joins.Reads.Pre joins.Reads.Learnt
+joins-determined κs a pre z z′ w w′ p q = (same p q, refl)

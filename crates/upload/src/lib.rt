@@ -4,6 +4,7 @@ ghost use Prim.Native.Nat.{_+_, _*_, _<_, _≤_};
 ghost use lib.ListN.{length};
 ghost use Rattle.paper.specs.Upload.{byteAt, nodesOf, linksOf, actionsOf, linkAt};
 ghost use Rattle.paper.specs.Table.{tableOf};
+ghost use Rattle.paper.specs.Actions.{joins};
 
 // The byte at a place.
 pub fn byte(s: &[u8], i: usize) -> usize
@@ -43,4 +44,13 @@ pub fn end(upload: &[u8], i: usize, second: bool) -> usize
     ensures { λ r. ⌜ (r ≡ tableOf (now (upload .entry)) .end i second) × (r < 256) ⌝ }
 {
     byte(upload, 4 + 2 * i + second as usize)
+}
+
+// Link i joins x and y, either way round: its two bytes as one number are theirs.
+pub fn joins(upload: &[u8], x: usize, y: usize, i: usize) -> bool
+    requires { ⌜ (linkAt i + 2 ≤ length (now upload)) × (x < 256) × (y < 256) ⌝ }
+    ensures { λ r. ⌜ r ≡ joins (tableOf (now (upload .entry))) x y i ⌝ }
+{
+    let pair = end(upload, i, false) + 256 * end(upload, i, true);
+    (pair == x + 256 * y) | (pair == y + 256 * x)
 }
