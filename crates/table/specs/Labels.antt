@@ -32,3 +32,7 @@ joinedBy t i bytes = renamed (getD bytes (t .end i true) 0) (getD bytes (t .end 
 -- both ends of link i are below n
 abbrev pub EndsWithin : Table → ℕ → ℕ → Type 0
 EndsWithin t i n = (b : Bool) → t .end i b < n
+
+-- both ends of every link are nodes
+abbrev pub EndsNamed : Table → Type 0
+EndsNamed t = (i : ℕ) → i < t .links → EndsWithin t i (t .nodes)

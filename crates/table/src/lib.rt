@@ -7,9 +7,8 @@ ghost use lib.Dec.{eqb};
 ghost use Rattle.counting.specs.Count.{all};
 ghost use Rattle.paper.specs.Upload.{nodesOf, linksOf, linkAt};
 ghost use Rattle.paper.specs.Table.{tableOf};
-ghost use Rattle.paper.specs.Actions.{joins};
 ghost use Rattle.paper.specs.Refusals.{inRange, repeats, linkRefusal};
-ghost use Rattle.table.specs.Labels.{Labelled, Rewritten, EndsWithin, ownNumber, renamed, joinedBy};
+ghost use Rattle.table.specs.Labels.{Labelled, Rewritten, EndsWithin, EndsNamed, ownNumber, renamed, joinedBy};
 ghost use Rattle.table.specs.Checked.{checked, linkNumber, answeredAt, pieceRefusal, linksThenPiece, HeaderPasses};
 
 // The answer of the reader.
@@ -25,16 +24,6 @@ fn in_range(n: usize, m: usize, a: usize) -> bool
     ((1 <= n) & (n <= 63)) & ((m <= 126) & (a <= 1024))
 }
 
-// Link i joins x and y, either way round.
-fn joins(upload: &[u8], x: usize, y: usize, i: usize) -> bool
-    requires { ⌜ linkAt i + 2 ≤ length (now upload) ⌝ }
-    ensures { λ r. ⌜ r ≡ joins (tableOf (now (upload .entry))) x y i ⌝ }
-{
-    let p = upload::end(upload, i, false);
-    let q = upload::end(upload, i, true);
-    ((p == x) & (q == y)) | ((p == y) & (q == x))
-}
-
 // Link i repeats an earlier one.
 fn repeats(upload: &[u8], i: usize) -> bool
     requires { ⌜ linkAt i + 2 ≤ length (now upload) ⌝ }
@@ -45,7 +34,7 @@ fn repeats(upload: &[u8], i: usize) -> bool
     let mut found = false;
     let mut j = 0;
     while j < i {
-        found = found | joins(upload, x, y, j);
+        found = found | upload::joins(upload, x, y, j);
         j += 1;
     }
     found
@@ -133,8 +122,21 @@ fn all_same(labels: &[u8]) -> bool
     same
 }
 
-// Check 8: the labels after every link are all node 0's.
-fn piece_checked(labels: &[u8], upload: &[u8]) -> Checked
+// All links in turn join their nodes' labels.
+fn join_links(labels: &mut [u8], upload: &[u8])
+    requires { ⌜ HeaderPasses (now upload) × EndsNamed (tableOf (now upload)) × Labelled (tableOf (now upload)) 0 (now labels) ⌝ }
+    ensures { λ _. ⌜ Labelled (tableOf (now (upload .entry))) (linksOf (now (upload .entry))) (now (labels .exit)) ⌝ }
+{
+    let m = upload::links(upload);
+    let mut i = 0;
+    while i < m {
+        join_link(labels, upload, i);
+        i += 1;
+    }
+}
+
+// The answer where the labels are those after every link: they are all node 0's, or 8.
+fn labels_checked(labels: &[u8], upload: &[u8]) -> Checked
     requires { ⌜ HeaderPasses (now upload) × Labelled (tableOf (now upload)) (linksOf (now upload)) (now labels) ⌝ }
     ensures { λ r. ⌜ r ≡ answeredAt (now (upload .entry)) (pieceRefusal (now (upload .entry))) ⌝ }
 {
@@ -152,6 +154,26 @@ fn piece_checked(labels: &[u8], upload: &[u8]) -> Checked
     }
 }
 
+// Check 8, with a label for every node.
+fn nodes_checked(labels: &mut [u8], upload: &[u8]) -> Checked
+    requires { ⌜ HeaderPasses (now upload) × EndsNamed (tableOf (now upload)) × (length (now labels) ≡ nodesOf (now upload)) ⌝ }
+    ensures { λ r. ⌜ r ≡ answeredAt (now (upload .entry)) (pieceRefusal (now (upload .entry))) ⌝ }
+{
+    number_nodes(labels);
+    join_links(labels, upload);
+    labels_checked(labels, upload)
+}
+
+// Check 8, once every link passes.
+fn piece_checked(upload: &[u8]) -> Checked
+    requires { ⌜ HeaderPasses (now upload) × EndsNamed (tableOf (now upload)) ⌝ }
+    ensures { λ r. ⌜ r ≡ answeredAt (now (upload .entry)) (pieceRefusal (now (upload .entry))) ⌝ }
+{
+    let n = upload::nodes(upload);
+    let mut labels = [0u8; 63];
+    nodes_checked(&mut labels[..n], upload)
+}
+
 // A link is refused at its own number.
 fn refused(number: u8, link: usize) -> Checked
     requires { ⌜ link < 256 ⌝ }
@@ -163,9 +185,9 @@ fn refused(number: u8, link: usize) -> Checked
     }
 }
 
-// Checks 5 to 8: each link in turn is tried, and then joins its nodes' labels.
-fn links_checked(labels: &mut [u8], upload: &[u8]) -> Checked
-    requires { ⌜ HeaderPasses (now upload) × Labelled (tableOf (now upload)) 0 (now labels) ⌝ }
+// Checks 5 to 8, once the header passes: each link in turn, and then the piece.
+fn links_checked(upload: &[u8]) -> Checked
+    requires { ⌜ HeaderPasses (now upload) ⌝ }
     ensures { λ r. ⌜ r ≡ answeredAt (now (upload .entry)) (linksThenPiece (now (upload .entry))) ⌝ }
 {
     let m = upload::links(upload);
@@ -175,29 +197,9 @@ fn links_checked(labels: &mut [u8], upload: &[u8]) -> Checked
         if number != 0 {
             return refused(number, i);
         }
-        join_link(labels, upload, i);
         i += 1;
     }
-    piece_checked(labels, upload)
-}
-
-// Checks 5 to 8, with a label for every node.
-fn nodes_checked(labels: &mut [u8], upload: &[u8]) -> Checked
-    requires { ⌜ HeaderPasses (now upload) × (length (now labels) ≡ nodesOf (now upload)) ⌝ }
-    ensures { λ r. ⌜ r ≡ answeredAt (now (upload .entry)) (linksThenPiece (now (upload .entry))) ⌝ }
-{
-    number_nodes(labels);
-    links_checked(labels, upload)
-}
-
-// Checks 5 to 8, once the header passes.
-fn table_checked(upload: &[u8]) -> Checked
-    requires { ⌜ HeaderPasses (now upload) ⌝ }
-    ensures { λ r. ⌜ r ≡ answeredAt (now (upload .entry)) (linksThenPiece (now (upload .entry))) ⌝ }
-{
-    let n = upload::nodes(upload);
-    let mut labels = [0u8; 63];
-    nodes_checked(&mut labels[..n], upload)
+    piece_checked(upload)
 }
 
 // Checks 3 to 8 of an upload, in the paper's order.
@@ -225,5 +227,5 @@ pub fn check(upload: &[u8]) -> Checked
             place: 0,
         };
     }
-    table_checked(upload)
+    links_checked(upload)
 }

@@ -73,13 +73,13 @@ returns-3 c =
     rw
     (refused-length upload (long at) (sym (range at) ∙ not-false _ (c .before .if2 .left)) (ne-eqb _ _ off))
 
-table-checked-requires : tie.Need-table-checked-requires
-table-checked-requires c κs = passed c
+links-checked-requires : tie.Need-links-checked-requires
+links-checked-requires c κs = passed c
 
 returns-4 : tie.Need-returns-4
 unfolding checked
 returns-4 c =
-    rw (header-passed _ (passed (c .before))) (c .table-checked .ensures)
+    rw (header-passed _ (passed (c .before))) (c .links-checked .ensures)
 
 pub check-spec : {M : Type 1} → statement M
 check-spec =
@@ -96,5 +96,5 @@ check-spec =
     mul-if3-2
     add-if3-2
     returns-3
-    table-checked-requires
+    links-checked-requires
     returns-4)

@@ -7,11 +7,14 @@ use Rattle.table.proofs.nodes_checked.Tie as tie
 number-nodes-requires : tie.Need-number-nodes-requires
 number-nodes-requires c κs = search needs
 
-links-checked-requires : tie.Need-links-checked-requires
-links-checked-requires c κs =
+join-links-requires : tie.Need-join-links-requires
+join-links-requires c κs =
     let at = c .before .before .before in
     let pre = at .before .before .before .before .pre in
-    (pre .0, labelled-none _ _ _ (pre .1) (at .number-nodes .ensures))
+    (pre .0, pre .1, labelled-none _ _ _ (pre .2) (at .number-nodes .ensures))
+
+labels-checked-requires : tie.Need-labels-checked-requires
+labels-checked-requires c κs = search needs
 
 same-length : tie.Need-same-length
 same-length c = search needs
@@ -21,4 +24,10 @@ returns c = search needs
 
 pub nodes-checked-spec : {M : Type 1} → statement M
 nodes-checked-spec =
-    tie.close (tie.spec number-nodes-requires links-checked-requires same-length returns)
+    tie.close
+    (tie.spec
+    number-nodes-requires
+    join-links-requires
+    labels-checked-requires
+    same-length
+    returns)
