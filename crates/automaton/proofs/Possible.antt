@@ -1,17 +1,19 @@
 -- When each kind of step is possible, from the marks and messages read.
 use Prim.Native.Nat.{ℕ, _<_}
 use mathlib.Core.Bool.{Bool, not, _&&_}
-use mathlib.Core.Path.{_≡_}
-use borrow.Author.Tests.{lt-ltb}
+use mathlib.Core.Path.{_≡_, sym, _∙_}
+use native.Mathlib.Omega.{arith}
+use native.Mathlib.Decide.{ℕ-discrete}
+use borrow.Author.Tests.{lt-ltb, le-leb, lt-leb, eq-eqb, ne-eqb}
 use lib.Dec.{leb, eqb}
 use Rattle.paper.specs.Table.{Table, source, target}
 use Rattle.paper.specs.State.{State}
 use Rattle.paper.specs.Steps.{childrenKnown, addChild, acknowledge, resolve, becomeRoot, possible, carries, unheard}
 
 module _ (t : Table) (s : State) where
-  pub knows : (x : ℕ) {w : Bool} {k : ℕ} → x < t .nodes → w ≡ s .waiting x → k ≡ unheard t s x → (w && leb k 1) ≡ possible t s (childrenKnown x)
+  pub knows : (x : ℕ) {w q : Bool} → x < t .nodes → w ≡ s .waiting x → q ≡ leb (unheard t s x) 1 → (w && q) ≡ possible t s (childrenKnown x)
   unfolding possible
-  knows x h w k = rw (lt-ltb x (t .nodes) h, w, k)
+  knows x h w q = rw (lt-ltb x (t .nodes) h, w, q)
 
   pub adds : (i : ℕ) (b : Bool) {w c : Bool} {x : ℕ} →
       i < t .links →
@@ -41,6 +43,14 @@ module _ (t : Table) (s : State) where
   unfolding possible
   resolves i b h x v y w = rw (lt-ltb i (t .links) h, v, x, w, y)
 
-  pub becomes : (x : ℕ) {r : Bool} {k : ℕ} → x < t .nodes → r ≡ s .root x → k ≡ unheard t s x → (not r && eqb k 0) ≡ possible t s (becomeRoot x)
+  -- at most none is none
+  none-within : (k : ℕ) → leb k 0 ≡ eqb k 0
+  none-within k = go (ℕ-discrete k 0)
+    where
+      go : Dec (k ≡ 0) → leb k 0 ≡ eqb k 0
+      go (yes e) = le-leb k 0 (omega arith) ∙ sym (eq-eqb k 0 e)
+      go (no e) = lt-leb k 0 (omega arith) ∙ sym (ne-eqb k 0 e)
+
+  pub becomes : (x : ℕ) {r q : Bool} → x < t .nodes → r ≡ s .root x → q ≡ leb (unheard t s x) 0 → (not r && q) ≡ possible t s (becomeRoot x)
   unfolding possible
-  becomes x h r k = rw (lt-ltb x (t .nodes) h, r, k)
+  becomes x h r q = rw (lt-ltb x (t .nodes) h, r, q, none-within (unheard t s x))

@@ -5,25 +5,24 @@ ghost use Rattle.paper.specs.Upload.{nodesOf, linksOf};
 ghost use Rattle.paper.specs.Table.{tableOf};
 ghost use Rattle.paper.specs.Steps.{unheard, possible, childrenKnown, addChild, acknowledge, resolve, becomeRoot};
 ghost use mathlib.Core.Bool.{cond, true};
-ghost use lib.Dec.{ltb};
-ghost use Rattle.paper.specs.Actions.{joins, linkBetween, nodeStep, linkStep, reading, readNode, readLink, names, directionFrom};
+ghost use lib.Dec.{leb};
+ghost use Rattle.paper.specs.Actions.{linkBetween, nodeStep, linkStep, readNode, readLink, names, directionFrom};
 ghost use Rattle.counting.specs.Count.{some};
 ghost use Rattle.paper.specs.Report.{movesAt, movesOn, moving, roots, rootOf, waitingCount, outcomeAtRest, outcomeOf};
 ghost use Rattle.table.specs.Accepted.{Accepted};
 ghost use Rattle.marks.specs.Lent.{Lent};
 ghost use Rattle.automaton.specs.Tried.{shown, lacks, lacking, linkMoves, TriedAs, Reported};
 
-// How many directions into a node lack child.
-struct Unheard {
-    count: usize,
-}
-
 // The direction of link i goes to x and lacks child.
 fn lacks_child(upload: &[u8], image: &[u8], x: usize, i: usize, back: bool) -> bool
     requires { ⌜ Lent (now upload) (now image) × (i < linksOf (now upload)) ⌝ }
     ensures { λ r. ⌜ r ≡ lacks (tableOf (now (upload .entry))) (shown (now (upload .entry)) (now (image .entry))) x i back ⌝ }
 {
-    (upload::end(upload, i, !back) == x) & !marks::child(upload, image, i, back)
+    if upload::end(upload, i, !back) == x {
+        !marks::child(upload, image, i, back)
+    } else {
+        false
+    }
 }
 
 // How many of the two directions of link i go to x and lack child.
@@ -35,19 +34,22 @@ fn lacking_on(upload: &[u8], image: &[u8], x: usize, i: usize) -> usize
         + lacks_child(upload, image, x, i, true) as usize
 }
 
-// How many directions into x lack child.
-fn unheard_at(upload: &[u8], image: &[u8], x: usize) -> Unheard
+// At most so many directions into x lack child.
+fn unheard_within(upload: &[u8], image: &[u8], x: usize, few: usize) -> bool
     requires { ⌜ Lent (now upload) (now image) ⌝ }
-    ensures { λ r. ⌜ (r .count ≡ unheard (tableOf (now (upload .entry))) (shown (now (upload .entry)) (now (image .entry))) x) × (r .count ≤ 252) ⌝ }
+    ensures { λ r. ⌜ r ≡ leb (unheard (tableOf (now (upload .entry))) (shown (now (upload .entry)) (now (image .entry))) x) few ⌝ }
 {
     let m = upload::links(upload);
     let mut count: usize = 0;
     let mut i: usize = 0;
     while i < m {
         count += lacking_on(upload, image, x, i);
+        if few < count {
+            return false;
+        }
         i += 1;
     }
-    Unheard { count: count }
+    true
 }
 
 // A node of link i: its first, or its second.
@@ -64,7 +66,7 @@ fn may_know_children(upload: &[u8], image: &[u8], x: usize) -> bool
     ensures { λ r. ⌜ r ≡ possible (tableOf (now (upload .entry))) (shown (now (upload .entry)) (now (image .entry))) (childrenKnown x) ⌝ }
 {
     if marks::waiting(upload, image, x) {
-        unheard_at(upload, image, x).count <= 1
+        unheard_within(upload, image, x, 1)
     } else {
         false
     }
@@ -102,7 +104,12 @@ fn may_become_root(upload: &[u8], image: &[u8], x: usize) -> bool
     requires { ⌜ Lent (now upload) (now image) × (x < nodesOf (now upload)) ⌝ }
     ensures { λ r. ⌜ r ≡ possible (tableOf (now (upload .entry))) (shown (now (upload .entry)) (now (image .entry))) (becomeRoot x) ⌝ }
 {
-    !marks::root(upload, image, x) & (unheard_at(upload, image, x).count == 0)
+    let already = marks::root(upload, image, x);
+    if already {
+        false
+    } else {
+        unheard_within(upload, image, x, 0)
+    }
 }
 
 // What an action comes to: the number by which it is refused, 0 if it can be taken, and the direction that it names.
@@ -112,25 +119,15 @@ pub struct Tried {
     pub back: bool,
 }
 
-// Link i joins x and y, either way round.
-fn joins_at(upload: &[u8], x: usize, y: usize, i: usize) -> bool
-    requires { ⌜ Accepted (now upload) × (i < linksOf (now upload)) ⌝ }
-    ensures { λ r. ⌜ r ≡ joins (tableOf (now (upload .entry))) x y i ⌝ }
-{
-    let a = end_node(upload, i, false);
-    let b = end_node(upload, i, true);
-    ((a == x) & (b == y)) | ((a == y) & (b == x))
-}
-
 // The link that joins x and y, m where none does.
 fn link_between(upload: &[u8], x: usize, y: usize) -> usize
-    requires { ⌜ Accepted (now upload) ⌝ }
+    requires { ⌜ Accepted (now upload) × (x < 256) × (y < 256) ⌝ }
     ensures { λ r. ⌜ (r ≡ linkBetween (tableOf (now (upload .entry))) x y) × (r ≤ linksOf (now (upload .entry))) ⌝ }
 {
     let m = upload::links(upload);
     let mut i: usize = 0;
     while i < m {
-        if joins_at(upload, x, y, i) {
+        if upload::joins(upload, x, y, i) {
             return i;
         }
         i += 1;
@@ -173,8 +170,8 @@ fn refused_unless(taken: bool) -> u8
     if taken { 0 } else { 11 }
 }
 
-// An action of kind 1 or 5.
-fn try_node(upload: &[u8], image: &[u8], kind: usize, x: usize, y: usize) -> Tried
+// What an action of kind 1 or 5 comes to.
+pub fn try_node(upload: &[u8], image: &[u8], kind: usize, x: usize, y: usize) -> Tried
     requires { ⌜ Lent (now upload) (now image) ⌝ }
     ensures { λ r. ⌜ TriedAs (tableOf (now (upload .entry))) (shown (now (upload .entry)) (now (image .entry))) (readNode (tableOf (now (upload .entry))) kind x y) r ⌝ }
 {
@@ -206,8 +203,8 @@ fn try_direction(upload: &[u8], image: &[u8], kind: usize, i: usize, x: usize) -
     }
 }
 
-// An action of kinds 2 to 4.
-fn try_link(upload: &[u8], image: &[u8], kind: usize, x: usize, y: usize) -> Tried
+// What an action of kinds 2 to 4 comes to.
+pub fn try_link(upload: &[u8], image: &[u8], kind: usize, x: usize, y: usize) -> Tried
     requires { ⌜ Lent (now upload) (now image) ⌝ }
     ensures { λ r. ⌜ TriedAs (tableOf (now (upload .entry))) (shown (now (upload .entry)) (now (image .entry))) (readLink (tableOf (now (upload .entry))) kind x y) r ⌝ }
 {
@@ -232,26 +229,6 @@ fn try_link(upload: &[u8], image: &[u8], kind: usize, x: usize, y: usize) -> Tri
     }
 }
 
-// What an action comes to.
-pub fn try_action(upload: &[u8], image: &[u8], kind: u8, x: u8, y: u8) -> Tried
-    requires { ⌜ Lent (now upload) (now image) ⌝ }
-    ensures { λ r. ⌜ TriedAs (tableOf (now (upload .entry))) (shown (now (upload .entry)) (now (image .entry))) (reading (tableOf (now (upload .entry))) kind x y) r ⌝ }
-{
-    if (kind == 1) | (kind == 5) {
-        try_node(upload, image, kind as usize, x as usize, y as usize)
-    } else {
-        if (2 <= kind) & (kind <= 4) {
-            try_link(upload, image, kind as usize, x as usize, y as usize)
-        } else {
-            Tried {
-                number: 9,
-                link: 0,
-                back: false,
-            }
-        }
-    }
-}
-
 // What a state comes to: the outcome, the lowest root node or 255, and how many nodes wait.
 pub struct Report {
     pub outcome: u8,
@@ -264,9 +241,11 @@ fn node_moves(upload: &[u8], image: &[u8], x: usize) -> bool
     requires { ⌜ Lent (now upload) (now image) × (x < nodesOf (now upload)) ⌝ }
     ensures { λ r. ⌜ r ≡ movesAt (tableOf (now (upload .entry))) (shown (now (upload .entry)) (now (image .entry))) x ⌝ }
 {
-    let count = unheard_at(upload, image, x).count;
-    (marks::waiting(upload, image, x) & (count <= 1))
-        | (!marks::root(upload, image, x) & (count == 0))
+    if may_know_children(upload, image, x) {
+        true
+    } else {
+        may_become_root(upload, image, x)
+    }
 }
 
 // Some step on a direction of link i is possible: the direction carries a message, or both its nodes contend.

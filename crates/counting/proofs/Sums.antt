@@ -71,6 +71,18 @@ sum-term (suc n) f k l = go (ℕ-discrete k n) (sum-term n f k)
     go (yes e) below = let q = ap f e in omega arith
     go (no d) below = let r = below (omega arith) in omega arith
 
+-- the terms in front are no more than all
+pub sum-front : (k n : ℕ) (f : ℕ → ℕ) → k ≤ n → sum k f ≤ sum n f
+unfolding sum
+sum-front k zero f h =
+    let none : k ≡ 0 = omega arith in
+    rw none (omega arith)
+sum-front k (suc n) f h = go (ℕ-discrete k (suc n)) (sum-front k n f)
+  where
+    go : Dec (k ≡ suc n) → (k ≤ n → sum k f ≤ sum n f) → sum k f ≤ sum n f + f n
+    go (yes e) below = rw e (omega arith)
+    go (no e) below = let front = below (omega arith) in omega arith
+
 -- f and g agree but at k: the sums differ as f k and g k do
 pub sum-change : (n : ℕ) (f g : ℕ → ℕ) (k : ℕ) → k < n → ((i : ℕ) → i < n → (i ≡ k → ⊥) → f i ≡ g i) → sum n f + g k ≡ sum n g + f k
 unfolding sum

@@ -216,7 +216,7 @@ fn children_known(upload: &[u8], image: &mut [u8], x: usize)
 }
 
 // Kinds 1 and 5, at node x.
-fn take_at_node(upload: &[u8], image: &mut [u8], kind: u8, x: usize)
+pub fn take_at_node(upload: &[u8], image: &mut [u8], kind: u8, x: usize)
     requires { ⌜ Lent (now upload) (now image) × (sound (tableOf (now upload)) (now image) ≡ true) × (x < nodesOf (now upload)) ⌝ }
     ensures { λ _. ⌜ now (image .exit) ≡ imageOf (tableOf (now (upload .entry))) (effect (tableOf (now (upload .entry))) (stateOf (tableOf (now (upload .entry))) (now (image .entry))) (nodeStep kind x)) ⌝ }
 {
@@ -228,7 +228,7 @@ fn take_at_node(upload: &[u8], image: &mut [u8], kind: u8, x: usize)
 }
 
 // Kinds 2 to 4, on a direction of link i.
-fn take_on_link(upload: &[u8], image: &mut [u8], kind: u8, i: usize, back: bool)
+pub fn take_on_link(upload: &[u8], image: &mut [u8], kind: u8, i: usize, back: bool)
     requires { ⌜ Lent (now upload) (now image) × (sound (tableOf (now upload)) (now image) ≡ true) × (i < linksOf (now upload)) ⌝ }
     ensures { λ _. ⌜ now (image .exit) ≡ imageOf (tableOf (now (upload .entry))) (effect (tableOf (now (upload .entry))) (stateOf (tableOf (now (upload .entry))) (now (image .entry))) (linkStep kind i back)) ⌝ }
 {
@@ -247,8 +247,8 @@ pub fn take(upload: &[u8], image: &mut [u8], kind: u8, x: usize, i: usize, back:
     ensures { λ _. ⌜ now (image .exit) ≡ imageOf (tableOf (now (upload .entry))) (effect (tableOf (now (upload .entry))) (stateOf (tableOf (now (upload .entry))) (now (image .entry))) (stepOf kind x i back)) ⌝ }
 {
     if (kind == 1) | (kind == 5) {
-        take_at_node(upload, image, kind, x);
+        take_at_node(&*upload, image, kind, x);
     } else {
-        take_on_link(upload, image, kind, i, back);
+        take_on_link(&*upload, image, kind, i, back);
     }
 }

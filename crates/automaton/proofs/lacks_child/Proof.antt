@@ -1,8 +1,7 @@
 use borrow.Author.Needs.{needs}
-use Prim.Native.Nat.{ℕ}
-use mathlib.Core.Bool.{Bool, not, _&&_}
-use mathlib.Core.Path.{ap₂}
-use lib.Dec.{eqb}
+use borrow.Author.Tests.{eq-eqb, ne-eqb}
+use mathlib.Core.Bool.{not}
+use mathlib.Core.Path.{sym, ap, _∙_}
 use Rattle.automaton.proofs.lacks_child.Statement.{statement}
 use Rattle.automaton.proofs.lacks_child.Tie as tie
 
@@ -14,8 +13,11 @@ child-requires c κs = search needs
 
 returns : tie.Need-returns
 returns c =
-    let at = c .before .before .before .before in
-    ap₂ (λ (z : ℕ) (h : Bool). eqb z (at .args .x) && not h) (c .before .end .ensures .0) (c .child .ensures)
+    let then = c .before in
+    rw (eq-eqb _ _ (sym (then .before .end .ensures .0) ∙ then .if1 .taken)) (ap not (c .child .ensures))
+
+returns-2 : tie.Need-returns-2
+returns-2 c = rw (ne-eqb _ _ (λ q. c .if1 .left (c .before .end .ensures .0 ∙ q)))
 
 pub lacks-child-spec : {M : Type 1} → statement M
-lacks-child-spec = tie.close (tie.spec end-requires child-requires returns)
+lacks-child-spec = tie.close (tie.spec end-requires child-requires returns returns-2)

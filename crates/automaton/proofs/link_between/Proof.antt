@@ -24,13 +24,13 @@ links-requires c κs = search needs
 loop-holds : tie.Need-loop-holds Inv-loop μ-loop
 loop-holds c = (search needs, c .links .ensures .0, some-empty _)
 
-joins-at-requires : tie.Need-joins-at-requires Inv-loop μ-loop
-joins-at-requires c κs = search needs
+joins-requires : tie.Need-joins-requires Inv-loop μ-loop
+joins-requires c κs = search needs
 
 returns : tie.Need-returns Inv-loop μ-loop
 returns c =
     let now = c .before .before .before .loop in
-    (sym (least-found _ _ _ _ (search needs) (now .inv .2) (sym (c .before .joins-at .ensures) ∙ c .if1 .taken)), search needs)
+    (sym (least-found _ _ _ _ (search needs) (now .inv .2) (sym (c .before .joins .ensures) ∙ c .if1 .taken)), search needs)
 
 add-i : tie.Need-add-i Inv-loop μ-loop
 add-i c = search needs
@@ -41,7 +41,7 @@ loop-less c = search needs
 loop-again : tie.Need-loop-again Inv-loop μ-loop
 loop-again c =
     let now = c .before .before .before .loop in
-    (search needs, now .inv .1, none-more _ _ (now .inv .2) (sym (c .before .joins-at .ensures) ∙ c .if1 .left))
+    (search needs, now .inv .1, none-more _ _ (now .inv .2) (sym (c .before .joins .ensures) ∙ c .if1 .left))
 
 returns-2 : tie.Need-returns-2 Inv-loop μ-loop
 returns-2 c =
@@ -60,7 +60,7 @@ link-between-spec =
     μ-loop
     links-requires
     loop-holds
-    joins-at-requires
+    joins-requires
     returns
     add-i
     loop-less

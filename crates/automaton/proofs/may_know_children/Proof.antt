@@ -7,14 +7,14 @@ use Rattle.automaton.proofs.may_know_children.Tie as tie
 waiting-requires : tie.Need-waiting-requires
 waiting-requires c κs = search needs
 
-unheard-at-requires : tie.Need-unheard-at-requires
-unheard-at-requires c κs = search needs
+unheard-within-requires : tie.Need-unheard-within-requires
+unheard-within-requires c κs = search needs
 
 returns : tie.Need-returns
 returns c =
-    let w = c .before .before .before in
+    let w = c .before .before in
     let at = w .before .before .before in
-    knows _ _ (at .args .x) (at .pre .1) (sym (c .before .before .if1 .taken) ∙ w .waiting .ensures) (c .before .unheard-at .ensures .0)
+    knows _ _ (at .args .x) (at .pre .1) (sym (c .before .if1 .taken) ∙ w .waiting .ensures) (c .unheard-within .ensures)
 
 returns-2 : tie.Need-returns-2
 returns-2 c =
@@ -23,4 +23,5 @@ returns-2 c =
     knows _ _ (at .args .x) (at .pre .1) (sym (c .if1 .left) ∙ w .waiting .ensures) refl
 
 pub may-know-children-spec : {M : Type 1} → statement M
-may-know-children-spec = tie.close (tie.spec waiting-requires unheard-at-requires returns returns-2)
+may-know-children-spec =
+    tie.close (tie.spec waiting-requires unheard-within-requires returns returns-2)

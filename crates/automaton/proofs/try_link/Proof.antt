@@ -1,9 +1,10 @@
-use borrow.Author.Tests.{lt-ltb, le-ltb}
+use borrow.Author.Tests.{lt-ltb, le-ltb, ltb-true}
 use borrow.Author.Needs.{needs}
 use mathlib.Core.Bool.{true, false, _&&_}
 use mathlib.Core.Path.{_≡_}
 use native.Mathlib.Omega.{arith}
 use lib.Dec.{ltb}
+use Rattle.counting.proofs.Booleans.{and-left, and-right}
 use Rattle.paper.specs.Actions.{linkBetween}
 use Rattle.paper.specs.Table.{tableOf}
 use Rattle.paper.specs.Upload.{nodesOf, linksOf}
@@ -15,7 +16,12 @@ nodes-requires : tie.Need-nodes-requires
 nodes-requires c κs = search needs
 
 link-between-requires : tie.Need-link-between-requires
-link-between-requires c κs = search needs
+link-between-requires c κs =
+    let at = c .before .before .before .before in
+    let n = c .before .nodes .result in
+    let from = ltb-true (at .args .x) n (and-left _ _ (c .if1 .taken)) in
+    let to = ltb-true (at .args .y) n (and-right (ltb (at .args .x) n) _ (c .if1 .taken)) in
+    (at .pre .table, omega arith, omega arith)
 
 links-requires : tie.Need-links-requires
 links-requires c κs = search needs
