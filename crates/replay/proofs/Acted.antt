@@ -27,6 +27,20 @@ pub record Acts (t : Table) (s : State) (kind x y i : ℕ) (b : Bool) : Type 0 w
   pub read : reading t kind x y ≡ names (stepOf kind x i b)
   pub may : possible t s (stepOf kind x i b) ≡ true
 
+-- what an action comes to, as it is read by its kind
+module _ {t : Table} {s : State} {r : Tried} (kind x y : ℕ) where
+  pub by-node : ofNode kind ≡ true → TriedAs t s (readNode t kind x y) r → TriedAs t s (reading t kind x y) r
+  unfolding reading
+  by-node e tried = rw e tried
+
+  pub by-link : ofNode kind ≡ false → ofLink kind ≡ true → TriedAs t s (readLink t kind x y) r → TriedAs t s (reading t kind x y) r
+  unfolding reading
+  by-link e f tried = rw (e, f) tried
+
+  pub by-none : ofNode kind ≡ false → ofLink kind ≡ false → TriedAs t s (unread 9) r → TriedAs t s (reading t kind x y) r
+  unfolding reading
+  by-none e f tried = rw (e, f) tried
+
 node-kind : (kind : ℕ) → ofNode kind ≡ true → (1 ≤ kind) × (kind ≤ 5)
 node-kind kind e =
     ⊎-elim (λ f. let k = eqb-true kind 1 f in (omega arith, omega arith)) (λ f. let k = eqb-true kind 5 f in (omega arith, omega arith))

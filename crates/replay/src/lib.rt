@@ -1,10 +1,11 @@
 // The public calls: fresh, report, list, step, run and replay, each with every refusal and place in document 01's order.
 ghost use mathlib.Core.Path.{_≡_};
-ghost use mathlib.Core.Bool.{true, _&&_};
+ghost use mathlib.Core.Bool.{true, false, _&&_};
 ghost use Prim.Native.Nat.{_+_, _*_, _<_, _≤_};
 ghost use Rattle.paper.specs.Upload.{byteAt, actionsOf, actionAt};
 ghost use Rattle.paper.specs.Table.{tableOf};
 ghost use Rattle.paper.specs.Image.{imageLength, fits, sound, stateOf};
+ghost use Rattle.paper.specs.Actions.{ofNode, ofLink};
 ghost use Rattle.paper.specs.Refusals.{tableRefusal};
 ghost use Rattle.paper.specs.Calls.{refusedWith, reported, reportAnswer, listAnswer, listBuffer, freshAnswer, freshImage, stepAnswer, stepImage, replayed, replayAnswer, runAnswer, runImage};
 ghost use Rattle.paper.specs.Runner.{longest};
@@ -32,7 +33,7 @@ fn refused(number: u8, place: u16) -> paper::Answer
 fn table_answer(upload: &[u8]) -> paper::Answer
     ensures { λ r. ⌜ r ≡ refusedWith (tableRefusal (now (upload .entry))) ⌝ }
 {
-    let checked = table::check(upload);
+    let checked = table::check(&*upload);
     match checked {
         table::Checked::Accepted { n, m, a } => refused(0, 0),
         table::Checked::Refused { number, place } => refused(number, place),
@@ -72,7 +73,7 @@ fn reporting(upload: &[u8], image: &[u8], number: u8, place: u16, steps: u16) ->
     requires { ⌜ Lent (now upload) (now image) ⌝ }
     ensures { λ r. ⌜ r ≡ reported (record { number = number; place = place }) steps (tableOf (now (upload .entry))) (stateOf (tableOf (now (upload .entry))) (now (image .entry))) ⌝ }
 {
-    let report = automaton::report_of(upload, image);
+    let report = automaton::report_of(&*upload, &*image);
     paper::Answer {
         refusal: number,
         place: place,
@@ -132,16 +133,44 @@ pub fn fresh(upload: &[u8], image: &mut [u8]) -> paper::Answer
     reporting(upload, image, 0, 0, 0)
 }
 
+// Takes an action of kind 1 or 5 if it can be taken, and answers the number by which it is refused, 0 if it is taken.
+fn act_at_node(upload: &[u8], image: &mut [u8], kind: u8, x: u8, y: u8) -> u8
+    requires { ⌜ Lent (now upload) (now image) × (sound (tableOf (now upload)) (now image) ≡ true) × (ofNode kind ≡ true) ⌝ }
+    ensures { λ r. ⌜ Taken (now (upload .entry)) (now (image .entry)) kind x y r (now (image .exit)) ⌝ }
+{
+    let tried = automaton::try_node(&*upload, image, kind as usize, x as usize, y as usize);
+    if tried.number == 0 {
+        image::take_at_node(&*upload, image, kind, x as usize);
+    }
+    tried.number
+}
+
+// Takes an action of kinds 2 to 4 if it can be taken, and answers as for a node.
+fn act_on_link(upload: &[u8], image: &mut [u8], kind: u8, x: u8, y: u8) -> u8
+    requires { ⌜ Lent (now upload) (now image) × (sound (tableOf (now upload)) (now image) ≡ true) × (ofNode kind ≡ false) × (ofLink kind ≡ true) ⌝ }
+    ensures { λ r. ⌜ Taken (now (upload .entry)) (now (image .entry)) kind x y r (now (image .exit)) ⌝ }
+{
+    let tried = automaton::try_link(&*upload, image, kind as usize, x as usize, y as usize);
+    if tried.number == 0 {
+        image::take_on_link(&*upload, image, kind, tried.link, tried.back);
+    }
+    tried.number
+}
+
 // Takes an action if it can be taken, and answers the number by which it is refused, 0 if it is taken.
 fn act(upload: &[u8], image: &mut [u8], kind: u8, x: u8, y: u8) -> u8
     requires { ⌜ Lent (now upload) (now image) × (sound (tableOf (now upload)) (now image) ≡ true) ⌝ }
     ensures { λ r. ⌜ Taken (now (upload .entry)) (now (image .entry)) kind x y r (now (image .exit)) ⌝ }
 {
-    let tried = automaton::try_action(upload, image, kind, x, y);
-    if tried.number == 0 {
-        image::take(upload, image, kind, x as usize, tried.link, tried.back);
+    if (kind == 1) | (kind == 5) {
+        act_at_node(&*upload, image, kind, x, y)
+    } else {
+        if (2 <= kind) & (kind <= 4) {
+            act_on_link(&*upload, image, kind, x, y)
+        } else {
+            9
+        }
     }
-    tried.number
 }
 
 // Step: one action on a lent image, as action 0.
@@ -215,13 +244,13 @@ fn replay_on(upload: &[u8], image: &mut [u8]) -> paper::Answer
 pub fn replay(upload: &[u8]) -> paper::Answer
     ensures { λ r. ⌜ r ≡ replayAnswer (now (upload .entry)) ⌝ }
 {
-    let checked = table_answer(upload);
+    let checked = table_answer(&*upload);
     if checked.refusal != 0 {
         return checked;
     }
     let mut buffer: [u8; 315] = [0; 315];
-    let k = image_length(upload);
-    replay_on(upload, &mut buffer[..k])
+    let k = image_length(&*upload);
+    replay_on(&*upload, &mut buffer[..k])
 }
 
 // Takes the first listed step, if there is one.
