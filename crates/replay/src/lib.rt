@@ -150,11 +150,11 @@ fn act_on_link(upload: &[u8], image: &mut [u8], kind: u8, x: u8, y: u8) -> u8
     requires { ⌜ Lent (now upload) (now image) × (sound (tableOf (now upload)) (now image) ≡ true) × (ofNode kind ≡ false) × (ofLink kind ≡ true) ⌝ }
     ensures { λ r. ⌜ Taken (now (upload .entry)) (now (image .entry)) kind x y r (now (image .exit)) ⌝ }
 {
-    let tried = automaton::try_link(&*upload, image, kind as usize, x as usize, y as usize);
-    if tried.number == 0 {
-        image::take_on_link(&*upload, image, kind, tried.link, tried.back);
+    let named = automaton::try_link(&*upload, image, kind as usize, x as usize, y as usize);
+    if named.number == 0 {
+        image::take_on_link(&*upload, image, kind, named.link, named.back);
     }
-    tried.number
+    named.number
 }
 
 // Takes an action if it can be taken, and answers the number by which it is refused, 0 if it is taken.
