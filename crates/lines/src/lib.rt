@@ -36,7 +36,11 @@ fn put_decimal(out: &mut [u8], at: usize, k: usize) -> usize
     requires { ⌜ (at < 2 ^ 31) × (k < 100000) ⌝ }
     ensures { λ r. ⌜ Wrote (now (out .entry)) at (decimal k) (now (out .exit)) r × (r ≤ at + 5) ⌝ }
 {
-    put_digits(out, at, 4, k)
+    if k < 10 {
+        put(out, at, 48 + k as u8)
+    } else {
+        put_digits(out, at, 4, k)
+    }
 }
 
 // One space, and a number in decimal.
