@@ -103,13 +103,13 @@ fn refused(number: u8) -> paper::Answer
 pub fn entry(batch: &[u8], number: usize) -> paper::Answer
     ensures { λ r. ⌜ r ≡ entryAnswer (now (batch .entry)) number ⌝ }
 {
-    if header_refused(batch) {
+    if header_refused(&*batch) {
         return refused(1);
     }
-    if span_outside(batch, number) {
+    if span_outside(&*batch, number) {
         return refused(2);
     }
-    replay::replay(part(batch, number))
+    replay::replay(part(&*batch, number))
 }
 
 // The answers of a batch, and 1 or 2 for each number of no entry.
@@ -120,7 +120,7 @@ fn answers(batch: &[u8]) -> [paper::Answer; 64]
     let mut all = [none; 64];
     let mut i = 0;
     while i < 64 {
-        let answer = entry(batch, i);
+        let answer = entry(&*batch, i);
         all[i] = answer;
         i += 1;
     }

@@ -1,7 +1,7 @@
 // The printed lines as bytes, into a lent buffer: a byte past its end is not written, and the place goes on all the same.
 ghost use mathlib.Core.Path.{_≡_};
 ghost use mathlib.Core.List.{_∷_, []};
-ghost use lib.ListN.{take};
+ghost use lib.ListN.{length, take};
 ghost use Prim.Native.Nat.{_+_, _-_, _*_, _<_, _≤_, _^_, min};
 ghost use Rattle.paper.specs.Lines.{digits, decimal, space, lineOf, linesFrom, refusedLine};
 ghost use Rattle.lines.specs.Wrote.{Wrote, Below, three};
@@ -36,7 +36,11 @@ fn put_decimal(out: &mut [u8], at: usize, k: usize) -> usize
     requires { ⌜ (at < 2 ^ 31) × (k < 100000) ⌝ }
     ensures { λ r. ⌜ Wrote (now (out .entry)) at (decimal k) (now (out .exit)) r × (r ≤ at + 5) ⌝ }
 {
-    put_digits(out, at, 4, k)
+    if k < 10 {
+        put(out, at, 48 + k as u8)
+    } else {
+        put_digits(out, at, 4, k)
+    }
 }
 
 // One space, and a number in decimal.
@@ -90,6 +94,42 @@ fn put_lines(out: &mut [u8], answers: [paper::Answer; 64], count: usize) -> usiz
     at
 }
 
+// How many digits a number below 100,000 has in decimal.
+fn width(k: usize) -> usize
+    ensures { λ r. ⌜ (r ≡ length (decimal k)) × (r ≤ 5) ⌝ }
+{
+    1 + (10 <= k) as usize + (100 <= k) as usize + (1000 <= k) as usize + (10000 <= k) as usize
+}
+
+// How long a line is: its seven numbers, six spaces and the newline.
+fn line_width(number: usize, answer: paper::Answer) -> usize
+    ensures { λ r. ⌜ (r ≡ length (lineOf number answer)) × (r ≤ 42) ⌝ }
+{
+    7
+        + width(number)
+        + width(answer.refusal as usize)
+        + width(answer.place as usize)
+        + width(answer.steps as usize)
+        + width(answer.outcome as usize)
+        + width(answer.root as usize)
+        + width(answer.waiting as usize)
+}
+
+// How long the lines of the first answers are, so many of them.
+fn lines_width(answers: [paper::Answer; 64], count: usize) -> usize
+    requires { ⌜ count ≤ 64 ⌝ }
+    ensures { λ r. ⌜ (r ≡ length (linesFrom 0 (take count answers))) × (r ≤ 42 * count) ⌝ }
+{
+    let mut sum = 0;
+    let mut i = 0;
+    while i < count {
+        let answer = answers[i];
+        sum += line_width(i, answer);
+        i += 1;
+    }
+    sum
+}
+
 // 13, and nothing written.
 fn no_room() -> paper::Answer
     ensures { λ r. ⌜ r ≡ noRoom ⌝ }
@@ -134,8 +174,7 @@ pub fn write(answers: [paper::Answer; 64], count: usize, out: &mut [u8]) -> pape
     ensures { λ r. ⌜ Output (linesFrom 0 (take count answers)) (now (out .entry)) (now (out .exit)) r ⌝ }
 {
     let most = shown(count);
-    let mut nowhere = [0u8; 0];
-    let needed = put_lines(&mut nowhere, answers, most);
+    let needed = lines_width(answers, most);
     if out.len() < needed {
         return no_room();
     }
