@@ -57,7 +57,7 @@ module _ (t : Table) (s : State) where
         may = allowed (nodeStep kind x) (got .1);
       }
 
-  taken-link : (kind x y : ℕ) →
+  pub taken-link : (kind x y : ℕ) →
       ofNode kind ≡ false →
       refusedBy t s (reading t kind x y) ≡ 0 →
       OnLink t s kind x y (linkBetween t x y) (directionFrom t (linkBetween t x y) x)

@@ -29,7 +29,7 @@ use Rattle.demands.specs.ExactlyWhen.{TableRefused, TablePasses, Tries, 
 use Rattle.demands.specs.Answers.{Call, freshCall, runCall, reportCall, listCall, stepCall, replayCall, entryCall, linesCall, answerOf, mostSteps, Ranges, NotOfAction, Blank, Counts, StepCounts, Answers}
 use Rattle.demands.proofs.Told.{sound-marks}
 use Rattle.demands.proofs.Least.{least-lies}
-use Rattle.demands.proofs.ListLength.{listed-most}
+use Rattle.listing.proofs.ListLength.{listed-most}
 use Rattle.demands.proofs.TextLength.{text-most}
 use Rattle.demands.proofs.Left.{call-leaves}
 use Rattle.demands.proofs.OneAction.{action-given, action-passes, action-leads, action-number}

@@ -8,7 +8,6 @@ pub mod Grounds
 pub mod ExactlyWhen
 pub mod TextLength
 pub mod Left
-pub mod ListLength
 pub mod Answers
 pub mod Holds
 pub mod Calls

@@ -13,7 +13,7 @@ use Rattle.lines.proofs.Decimal.{digits-most}
 use Rattle.batch.proofs.Text.{text-refused}
 use Rattle.batch.proofs.Tests.{header-right}
 use Rattle.batch.proofs.Independent.{line-each}
-use Rattle.demands.proofs.ListLength.{length-joined, repeated}
+use Rattle.listing.proofs.ListLength.{length-joined, repeated}
 
 -- a list has at most so many bytes
 record Most (l : List ℕ) (k : ℕ) : Type 0 where

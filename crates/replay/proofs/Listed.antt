@@ -1,16 +1,17 @@
--- What a list answers and leaves, case by case.
-use Prim.Native.Nat.{ℕ, _*_, _/_, _≤_, _<_}
+-- What a list answers and leaves, case by case, and how long it can be.
+use Prim.Native.Nat.{ℕ, _+_, _*_, _/_, _≤_}
 use mathlib.Core.Bool.{Bool, true, false, _&&_}
 use mathlib.Core.Path.{_≡_, ap, _∙_}
 use mathlib.Core.List.{List, [], _∷_}
 use native.Mathlib.Omega.{arith}
 use lib.ListN.{length}
 use lib.Dec.{ltb}
-use borrow.Author.Tests.{lt-ltb, le-ltb}
 use Rattle.paper.specs.Table.{tableOf}
 use Rattle.paper.specs.Image.{stateOf, fits, sound}
 use Rattle.paper.specs.Refusals.{Refusal, accepted, given, first, tableRefusal, imageRefusal, roomRefusal}
 use Rattle.paper.specs.Calls.{refusedWith, reported, answered, left, over, listOfImage, listRefusal, listAnswer, listBuffer}
+use Rattle.table.specs.Accepted.{Accepted}
+use Rattle.listing.proofs.ListLength.{listed-most}
 use Rattle.replay.proofs.Order.{answered-table, left-table, answered-image, left-image, refusal-behind, twelve}
 
 abbrev pub thirteen : Refusal
@@ -38,7 +39,7 @@ module _ (upload image buffer : List ℕ) where
       left-image upload (fits (tableOf upload) image && sound (tableOf upload) image) accepted (roomRefusal (length (listOfImage upload image)) buffer) _ buffer h g
 
   -- on an accepted table and a sound image: 13, or none
-  module _ (h : tableRefusal upload .number ≡ 0) (g : (fits (tableOf upload) image && sound (tableOf upload) image) ≡ true) (count : ℕ) (e : length (listOfImage upload image) ≡ 3 * count) where
+  module _ (h : tableRefusal upload .number ≡ 0) (g : (fits (tableOf upload) image && sound (tableOf upload) image) ≡ true) where
     tried : (b : Bool) → ltb (length buffer) (length (listOfImage upload image)) ≡ b → listRefusal upload image buffer ≡ given b 13 0
     tried b q =
         refusal-behind upload (fits (tableOf upload) image && sound (tableOf upload) image) accepted (roomRefusal (length (listOfImage upload image)) buffer) h g
@@ -48,28 +49,28 @@ module _ (upload image buffer : List ℕ) where
         go true q = rw q
         go false q = rw q
 
-    no-room : length buffer < 3 * count → listRefusal upload image buffer ≡ thirteen
-    no-room l = tried true (lt-ltb (length buffer) (length (listOfImage upload image)) (rw e l))
+    module _ (lacks : ltb (length buffer) (length (listOfImage upload image)) ≡ true) where
+      pub list-room : listAnswer upload image buffer ≡ refusedWith thirteen
+      unfolding listAnswer
+      list-room =
+          ap (λ (r : Refusal). answered r (length (listOfImage upload image) / 3) (tableOf upload) (stateOf (tableOf upload) image)) (tried true lacks)
 
-    room : 3 * count ≤ length buffer → listRefusal upload image buffer ≡ accepted
-    room l = tried false (le-ltb (length buffer) (length (listOfImage upload image)) (rw e l))
+      pub list-room-left : listBuffer upload image buffer ≡ buffer
+      unfolding listBuffer
+      list-room-left = ap (λ (r : Refusal). left r (over (listOfImage upload image) buffer) buffer) (tried true lacks)
 
-    pub list-room : length buffer < 3 * count → listAnswer upload image buffer ≡ refusedWith thirteen
-    unfolding listAnswer
-    list-room l =
-        ap (λ (r : Refusal). answered r (length (listOfImage upload image) / 3) (tableOf upload) (stateOf (tableOf upload) image)) (no-room l)
+    module _ (room : ltb (length buffer) (length (listOfImage upload image)) ≡ false) where
+      pub list-done : (count : ℕ) → length (listOfImage upload image) ≡ 3 * count → listAnswer upload image buffer ≡ reported accepted count (tableOf upload) (stateOf (tableOf upload) image)
+      unfolding listAnswer
+      list-done count e =
+          let third : length (listOfImage upload image) / 3 ≡ count = omega arith in
+          ap (λ (r : Refusal). answered r (length (listOfImage upload image) / 3) (tableOf upload) (stateOf (tableOf upload) image)) (tried false room)
+          ∙ ap (λ (k : ℕ). reported accepted k (tableOf upload) (stateOf (tableOf upload) image)) third
 
-    pub list-room-left : length buffer < 3 * count → listBuffer upload image buffer ≡ buffer
-    unfolding listBuffer
-    list-room-left l = ap (λ (r : Refusal). left r (over (listOfImage upload image) buffer) buffer) (no-room l)
+      pub list-done-left : listBuffer upload image buffer ≡ over (listOfImage upload image) buffer
+      unfolding listBuffer
+      list-done-left = ap (λ (r : Refusal). left r (over (listOfImage upload image) buffer) buffer) (tried false room)
 
-    pub list-done : 3 * count ≤ length buffer → listAnswer upload image buffer ≡ reported accepted count (tableOf upload) (stateOf (tableOf upload) image)
-    unfolding listAnswer
-    list-done l =
-        let third : length (listOfImage upload image) / 3 ≡ count = omega arith in
-        ap (λ (r : Refusal). answered r (length (listOfImage upload image) / 3) (tableOf upload) (stateOf (tableOf upload) image)) (room l)
-        ∙ ap (λ (k : ℕ). reported accepted k (tableOf upload) (stateOf (tableOf upload) image)) third
-
-    pub list-done-left : 3 * count ≤ length buffer → listBuffer upload image buffer ≡ over (listOfImage upload image) buffer
-    unfolding listBuffer
-    list-done-left l = ap (λ (r : Refusal). left r (over (listOfImage upload image) buffer) buffer) (room l)
+-- a list of an accepted table has at most 6 bytes for a node and 12 for a link
+pub list-most : (upload image : List ℕ) → Accepted upload → length (listOfImage upload image) ≤ 6 * tableOf upload .nodes + 12 * tableOf upload .links
+list-most upload image known = listed-most (tableOf upload) (stateOf (tableOf upload) image) (known .nodesFit)

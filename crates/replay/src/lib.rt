@@ -2,12 +2,14 @@
 ghost use mathlib.Core.Path.{_≡_};
 ghost use mathlib.Core.Bool.{true, false, _&&_};
 ghost use Prim.Native.Nat.{_+_, _*_, _<_, _≤_};
+ghost use lib.Dec.{ltb};
+ghost use lib.ListN.{length};
 ghost use Rattle.paper.specs.Upload.{byteAt, actionsOf, actionAt};
 ghost use Rattle.paper.specs.Table.{tableOf};
 ghost use Rattle.paper.specs.Image.{imageLength, fits, sound, stateOf};
 ghost use Rattle.paper.specs.Actions.{ofNode, ofLink};
 ghost use Rattle.paper.specs.Refusals.{tableRefusal};
-ghost use Rattle.paper.specs.Calls.{refusedWith, reported, reportAnswer, listAnswer, listBuffer, freshAnswer, freshImage, stepAnswer, stepImage, replayed, replayAnswer, runAnswer, runImage};
+ghost use Rattle.paper.specs.Calls.{refusedWith, reported, reportAnswer, listOfImage, listAnswer, listBuffer, freshAnswer, freshImage, stepAnswer, stepImage, replayed, replayAnswer, runAnswer, runImage};
 ghost use Rattle.paper.specs.Runner.{longest};
 ghost use Rattle.marks.specs.Lent.{Lent};
 ghost use Rattle.replay.specs.Taken.{Taken};
@@ -98,6 +100,26 @@ pub fn report(upload: &[u8], image: &[u8]) -> paper::Answer
     reporting(upload, image, 0, 0, 0)
 }
 
+// The most bytes that a list has: 6 for a node, 12 for a link.
+fn most_listed(upload: &[u8]) -> usize
+    requires { ⌜ Accepted (now upload) ⌝ }
+    ensures { λ r. ⌜ r ≡ 6 * tableOf (now (upload .entry)) .nodes + 12 * tableOf (now (upload .entry)) .links ⌝ }
+{
+    6 * upload::nodes(upload) + 12 * upload::links(upload)
+}
+
+// The buffer has no room for the list. The list is counted only where the buffer has no room for the longest.
+fn lacks_room(upload: &[u8], image: &[u8], buffer: &[u8]) -> bool
+    requires { ⌜ Lent (now upload) (now image) ⌝ }
+    ensures { λ r. ⌜ r ≡ ltb (length (now (buffer .entry))) (length (listOfImage (now (upload .entry)) (now (image .entry)))) ⌝ }
+{
+    if buffer.len() < most_listed(upload) {
+        buffer.len() < 3 * listing::count_listed(upload, image)
+    } else {
+        false
+    }
+}
+
 // List: the possible steps of a lent image, into a lent buffer.
 pub fn list(upload: &[u8], image: &[u8], buffer: &mut [u8]) -> paper::Answer
     ensures { λ r. ⌜ r ≡ listAnswer (now (upload .entry)) (now (image .entry)) (now (buffer .entry)) ⌝ }
@@ -110,7 +132,7 @@ pub fn list(upload: &[u8], image: &[u8], buffer: &mut [u8]) -> paper::Answer
     if !good_image(upload, image) {
         return refused(12, 0);
     }
-    if buffer.len() < 3 * listing::count_listed(upload, image) {
+    if lacks_room(upload, image, buffer) {
         return refused(13, 0);
     }
     let count = listing::list(upload, image, buffer);

@@ -1,13 +1,11 @@
 use borrow.Author.Needs.{needs}
-use borrow.Author.Tests.{not-true, not-false}
+use borrow.Author.Tests.{not-true, not-false, ltb-false}
 use native.Mathlib.Omega.{arith}
-use Prim.Native.Nat.{_*_, _≤_}
-use lib.ListN.{length}
 use mathlib.Core.Path.{sym, _∙_}
 use denote.Ref.{now}
 use Rattle.table.proofs.Laws.{accepted-laws}
 use Rattle.replay.proofs.Answers.{table-good, table-bad, lent-here}
-use Rattle.replay.proofs.Listed.{list-table, list-table-left, list-image, list-image-left, list-room, list-room-left, list-done, list-done-left}
+use Rattle.replay.proofs.Listed.{list-table, list-table-left, list-image, list-image-left, list-room, list-room-left, list-done, list-done-left, list-most}
 use Rattle.replay.proofs.list.Statement.{statement}
 use Rattle.replay.proofs.list.Tie as tie
 
@@ -37,64 +35,70 @@ returns-2 c =
     let test = sym (c .before .before .good-image .ensures) ∙ not-true _ (c .before .if2 .taken) in
     (c .refused .ensures ∙ sym (list-image (now (a .upload)) (now (a .image)) (now (a .buffer)) good test), sym (list-image-left (now (a .upload)) (now (a .image)) (now (a .buffer)) good test))
 
-count-listed-requires : tie.Need-count-listed-requires
-count-listed-requires c κs =
-    let at = c .before .before in
-    let a = at .before .before .before .before .before .before .args in
-    let good = table-good (now (a .upload)) (at .before .before .table-answer .ensures) (at .if1 .left) in
-    lent-here (now (a .upload)) (now (a .image)) good (sym (c .before .good-image .ensures) ∙ not-false _ (c .if2 .left))
-
-mul-if3 : tie.Need-mul-if3
-mul-if3 c = search needs
-
-refused-requires-2 : tie.Need-refused-requires-2
-refused-requires-2 c κs = search needs
-
-returns-3 : tie.Need-returns-3
-returns-3 c =
-    let tried = c .before .before .before in
-    let at = tried .before .before in
-    let a = at .before .before .before .before .before .before .args in
-    let good = table-good (now (a .upload)) (at .before .before .table-answer .ensures) (at .if1 .left) in
-    let test = sym (tried .before .good-image .ensures) ∙ not-false _ (tried .if2 .left) in
-    let count = c .before .before .count-listed in
-    (c .refused2 .ensures ∙ sym (list-room (now (a .upload)) (now (a .image)) (now (a .buffer)) good test (count .result) (count .ensures .0) (c .before .if3 .taken)), sym (list-room-left (now (a .upload)) (now (a .image)) (now (a .buffer)) good test (count .result) (count .ensures .0) (c .before .if3 .taken)))
-
-list-requires : tie.Need-list-requires
-list-requires c κs =
-    let tried = c .before .before .before in
-    let at = tried .before .before in
-    let a = at .before .before .before .before .before .before .args in
-    let good = table-good (now (a .upload)) (at .before .before .table-answer .ensures) (at .if1 .left) in
-    let count = c .before .before .count-listed in
-    (lent-here (now (a .upload)) (now (a .image)) good (sym (tried .before .good-image .ensures) ∙ not-false _ (tried .if2 .left)), omega (arith, count .ensures .0, c .before .if3 .left))
-
-cast-reporting : tie.Need-cast-reporting
-cast-reporting c = search needs
-
-reporting-requires : tie.Need-reporting-requires
-reporting-requires c κs =
-    let tried = c .before .before .before .before .before .before in
+lacks-room-requires : tie.Need-lacks-room-requires
+lacks-room-requires c κs =
+    let tried = c .before in
     let at = tried .before .before in
     let a = at .before .before .before .before .before .before .args in
     let good = table-good (now (a .upload)) (at .before .before .table-answer .ensures) (at .if1 .left) in
     lent-here (now (a .upload)) (now (a .image)) good (sym (tried .before .good-image .ensures) ∙ not-false _ (tried .if2 .left))
 
+refused-requires-2 : tie.Need-refused-requires-2
+refused-requires-2 c κs = search needs
+
 same-length : tie.Need-same-length
 same-length c = search needs
 
-returns-4 : tie.Need-returns-4
-returns-4 c =
-    let done = c .before .before .before in
-    let room = done .before .before in
+returns-3 : tie.Need-returns-3
+returns-3 c =
+    let room = c .before .before in
     let tried = room .before .before in
     let at = tried .before .before in
     let a = at .before .before .before .before .before .before .args in
     let good = table-good (now (a .upload)) (at .before .before .table-answer .ensures) (at .if1 .left) in
     let test = sym (tried .before .good-image .ensures) ∙ not-false _ (tried .if2 .left) in
-    let counted = room .before .count-listed .ensures .0 in
-    let fits : 3 * done .list .result ≤ length (now (a .buffer)) = omega (arith, done .list .ensures .0, counted, room .if3 .left) in
-    (c .reporting .ensures ∙ sym (list-done (now (a .upload)) (now (a .image)) (now (a .buffer)) good test (done .list .result) (done .list .ensures .0) fits), done .list .ensures .1 ∙ sym (list-done-left (now (a .upload)) (now (a .image)) (now (a .buffer)) good test (done .list .result) (done .list .ensures .0) fits))
+    let lacks = sym (room .lacks-room .ensures) ∙ c .before .if3 .taken in
+    (c .refused2 .ensures ∙ sym (list-room (now (a .upload)) (now (a .image)) (now (a .buffer)) good test lacks), sym (list-room-left (now (a .upload)) (now (a .image)) (now (a .buffer)) good test lacks))
+
+list-requires : tie.Need-list-requires
+list-requires c κs =
+    let room = c .before .before in
+    let tried = room .before .before in
+    let at = tried .before .before in
+    let a = at .before .before .before .before .before .before .args in
+    let good = table-good (now (a .upload)) (at .before .before .table-answer .ensures) (at .if1 .left) in
+    (lent-here (now (a .upload)) (now (a .image)) good (sym (tried .before .good-image .ensures) ∙ not-false _ (tried .if2 .left)), ltb-false _ _ (sym (room .lacks-room .ensures) ∙ c .before .if3 .left))
+
+cast-reporting : tie.Need-cast-reporting
+cast-reporting c =
+    let done = c .before .before in
+    let at = done .before .before .before .before .before .before .before in
+    let a = at .before .before .before .before .before .before .args in
+    let known = accepted-laws (now (a .upload)) (table-good (now (a .upload)) (at .before .before .table-answer .ensures) (at .if1 .left)) in
+    record { fits = omega (arith, list-most (now (a .upload)) (now (a .image)) known, known .nodesFit, known .linksFit, done .list .ensures .0) }
+
+reporting-requires : tie.Need-reporting-requires
+reporting-requires c κs =
+    let tried = c .before .before .before .before .before .before .before in
+    let at = tried .before .before in
+    let a = at .before .before .before .before .before .before .args in
+    let good = table-good (now (a .upload)) (at .before .before .table-answer .ensures) (at .if1 .left) in
+    lent-here (now (a .upload)) (now (a .image)) good (sym (tried .before .good-image .ensures) ∙ not-false _ (tried .if2 .left))
+
+same-length-2 : tie.Need-same-length-2
+same-length-2 c = search needs
+
+returns-4 : tie.Need-returns-4
+returns-4 c =
+    let done = c .before .before .before in
+    let room = done .before .before .before in
+    let tried = room .before .before in
+    let at = tried .before .before in
+    let a = at .before .before .before .before .before .before .args in
+    let good = table-good (now (a .upload)) (at .before .before .table-answer .ensures) (at .if1 .left) in
+    let test = sym (tried .before .good-image .ensures) ∙ not-false _ (tried .if2 .left) in
+    let fits = sym (room .lacks-room .ensures) ∙ done .before .before .if3 .left in
+    (c .reporting .ensures ∙ sym (list-done (now (a .upload)) (now (a .image)) (now (a .buffer)) good test fits (done .list .result) (done .list .ensures .0)), done .list .ensures .1 ∙ sym (list-done-left (now (a .upload)) (now (a .image)) (now (a .buffer)) good test fits))
 
 pub list-spec : {M : Type 1} → statement M
 list-spec =
@@ -105,12 +109,12 @@ list-spec =
     good-image-requires
     refused-requires
     returns-2
-    count-listed-requires
-    mul-if3
+    lacks-room-requires
     refused-requires-2
+    same-length
     returns-3
     list-requires
     cast-reporting
     reporting-requires
-    same-length
+    same-length-2
     returns-4)
