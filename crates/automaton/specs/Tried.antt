@@ -1,6 +1,6 @@
 -- What is asked of one link, of one action and of a state.
 use Prim.Native.Nat.{ℕ, _+_}
-use mathlib.Core.Bool.{Bool, true, false, not, _&&_, _||_}
+use mathlib.Core.Bool.{Bool, true, false, cond, not, _&&_, _||_}
 use mathlib.Core.List.{List}
 use mathlib.Core.Path.{_≡_}
 use lib.Dec.{eqb}
@@ -25,6 +25,10 @@ lacks t s x i b = eqb (target t i b) x && not (s .child i b)
 -- how many of the two directions of link i do
 abbrev pub lacking : Table → State → ℕ → ℕ → ℕ
 lacking t s x i = bit (lacks t s x i false) + bit (lacks t s x i true)
+
+-- the mark that a step at node x asks for: x waits for kind 1, and is not root for kind 5
+abbrev pub markAllows : State → ℕ → ℕ → Bool
+markAllows s kind x = cond (eqb kind 1) (s .waiting x) (not (s .root x))
 
 -- the link of a step on a direction, 0 for a step at a node
 abbrev pub linkOf : Step → ℕ

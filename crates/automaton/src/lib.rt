@@ -3,15 +3,15 @@ ghost use mathlib.Core.Path.{_≡_};
 ghost use Prim.Native.Nat.{_+_, _*_, _<_, _≤_};
 ghost use Rattle.paper.specs.Upload.{nodesOf, linksOf};
 ghost use Rattle.paper.specs.Table.{tableOf};
-ghost use Rattle.paper.specs.Steps.{unheard, possible, childrenKnown, addChild, acknowledge, resolve, becomeRoot};
-ghost use mathlib.Core.Bool.{cond, true};
-ghost use lib.Dec.{leb};
+ghost use Rattle.paper.specs.Steps.{unheard, possible, addChild, acknowledge, resolve};
+ghost use mathlib.Core.Bool.{cond, true, false, _||_};
+ghost use lib.Dec.{eqb, leb};
 ghost use Rattle.paper.specs.Actions.{linkBetween, nodeStep, linkStep, readNode, readLink, names, directionFrom};
 ghost use Rattle.counting.specs.Count.{some};
 ghost use Rattle.paper.specs.Report.{movesAt, movesOn, moving, roots, rootOf, waitingCount, outcomeAtRest, outcomeOf};
 ghost use Rattle.table.specs.Accepted.{Accepted};
 ghost use Rattle.marks.specs.Lent.{Lent};
-ghost use Rattle.automaton.specs.Tried.{shown, lacks, lacking, linkMoves, TriedAs, Reported};
+ghost use Rattle.automaton.specs.Tried.{shown, lacks, lacking, markAllows, linkMoves, TriedAs, Reported};
 
 // The direction of link i goes to x and lacks child.
 fn lacks_child(upload: &[u8], image: &[u8], x: usize, i: usize, back: bool) -> bool
@@ -34,6 +34,14 @@ fn lacking_on(upload: &[u8], image: &[u8], x: usize, i: usize) -> usize
         + lacks_child(upload, image, x, i, true) as usize
 }
 
+// Link i is one of x's.
+fn touches(upload: &[u8], x: usize, i: usize) -> bool
+    requires { ⌜ Accepted (now upload) × (i < linksOf (now upload)) ⌝ }
+    ensures { λ r. ⌜ r ≡ (eqb (tableOf (now (upload .entry)) .end i false) x || eqb (tableOf (now (upload .entry)) .end i true) x) ⌝ }
+{
+    (upload::end(upload, i, false) == x) | (upload::end(upload, i, true) == x)
+}
+
 // At most so many directions into x lack child.
 fn unheard_within(upload: &[u8], image: &[u8], x: usize, few: usize) -> bool
     requires { ⌜ Lent (now upload) (now image) ⌝ }
@@ -43,9 +51,11 @@ fn unheard_within(upload: &[u8], image: &[u8], x: usize, few: usize) -> bool
     let mut count: usize = 0;
     let mut i: usize = 0;
     while i < m {
-        count += lacking_on(upload, image, x, i);
-        if few < count {
-            return false;
+        if touches(upload, x, i) {
+            count += lacking_on(upload, image, x, i);
+            if few < count {
+                return false;
+            }
         }
         i += 1;
     }
@@ -60,13 +70,25 @@ pub fn end_node(upload: &[u8], i: usize, second: bool) -> usize
     upload::end(upload, i, second)
 }
 
-// Kind 1 is possible at node x.
-fn may_know_children(upload: &[u8], image: &[u8], x: usize) -> bool
+// The mark of node x allows kind 1 or 5: it waits, or it is not root.
+fn mark_allows(upload: &[u8], image: &[u8], kind: usize, x: usize) -> bool
     requires { ⌜ Lent (now upload) (now image) × (x < nodesOf (now upload)) ⌝ }
-    ensures { λ r. ⌜ r ≡ possible (tableOf (now (upload .entry))) (shown (now (upload .entry)) (now (image .entry))) (childrenKnown x) ⌝ }
+    ensures { λ r. ⌜ r ≡ markAllows (shown (now (upload .entry)) (now (image .entry))) kind x ⌝ }
 {
-    if marks::waiting(upload, image, x) {
-        unheard_within(upload, image, x, 1)
+    if kind == 1 {
+        marks::waiting(upload, image, x)
+    } else {
+        !marks::root(upload, image, x)
+    }
+}
+
+// The step of kind 1 or 5 at node x is possible: its mark allows it, and at most one direction into x lacks child, none for kind 5.
+pub fn node_possible(upload: &[u8], image: &[u8], kind: usize, x: usize) -> bool
+    requires { ⌜ Lent (now upload) (now image) × (x < nodesOf (now upload)) ⌝ }
+    ensures { λ r. ⌜ r ≡ possible (tableOf (now (upload .entry))) (shown (now (upload .entry)) (now (image .entry))) (nodeStep kind x) ⌝ }
+{
+    if mark_allows(&*upload, &*image, kind, x) {
+        unheard_within(&*upload, &*image, x, (kind == 1) as usize)
     } else {
         false
     }
@@ -99,19 +121,6 @@ fn may_resolve(upload: &[u8], image: &[u8], i: usize, back: bool) -> bool
         & marks::contending(upload, image, end_node(upload, i, !back))
 }
 
-// Kind 5 is possible at node x.
-fn may_become_root(upload: &[u8], image: &[u8], x: usize) -> bool
-    requires { ⌜ Lent (now upload) (now image) × (x < nodesOf (now upload)) ⌝ }
-    ensures { λ r. ⌜ r ≡ possible (tableOf (now (upload .entry))) (shown (now (upload .entry)) (now (image .entry))) (becomeRoot x) ⌝ }
-{
-    let already = marks::root(upload, image, x);
-    if already {
-        false
-    } else {
-        unheard_within(upload, image, x, 0)
-    }
-}
-
 // What an action comes to: the number by which it is refused, 0 if it can be taken, and the direction that it names.
 pub struct Tried {
     pub number: u8,
@@ -133,18 +142,6 @@ fn link_between(upload: &[u8], x: usize, y: usize) -> usize
         i += 1;
     }
     m
-}
-
-// The step of kind 1 or 5 at node x is possible.
-pub fn node_possible(upload: &[u8], image: &[u8], kind: usize, x: usize) -> bool
-    requires { ⌜ Lent (now upload) (now image) × (x < nodesOf (now upload)) ⌝ }
-    ensures { λ r. ⌜ r ≡ possible (tableOf (now (upload .entry))) (shown (now (upload .entry)) (now (image .entry))) (nodeStep kind x) ⌝ }
-{
-    if kind == 1 {
-        may_know_children(upload, image, x)
-    } else {
-        may_become_root(upload, image, x)
-    }
 }
 
 // The step of kinds 2 to 4 on a direction of link i is possible.
@@ -241,10 +238,10 @@ fn node_moves(upload: &[u8], image: &[u8], x: usize) -> bool
     requires { ⌜ Lent (now upload) (now image) × (x < nodesOf (now upload)) ⌝ }
     ensures { λ r. ⌜ r ≡ movesAt (tableOf (now (upload .entry))) (shown (now (upload .entry)) (now (image .entry))) x ⌝ }
 {
-    if may_know_children(upload, image, x) {
+    if node_possible(upload, image, 1, x) {
         true
     } else {
-        may_become_root(upload, image, x)
+        node_possible(upload, image, 5, x)
     }
 }
 
