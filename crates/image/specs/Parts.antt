@@ -1,9 +1,10 @@
 -- The effects of the steps in parts: one mark or message of a state, and the one byte of an image that shows it.
-use Prim.Native.Nat.{ℕ, zero, suc, _+_, _*_, _/_, _%_}
+use Prim.Native.Nat.{ℕ, zero, suc, _+_, _*_, _/_, _%_, _<_}
 use mathlib.Core.Bool.{Bool, true, false, not, cond, _&&_}
+use mathlib.Core.Path.{_≡_}
 use mathlib.Core.List.{List}
 use lib.Dec.{ltb, eqb}
-use lib.ListN.{set}
+use lib.ListN.{length, set}
 use Rattle.counting.specs.Count.{bit}
 use Rattle.paper.specs.Upload.{byteAt}
 use Rattle.paper.specs.Table.{Table, source}
@@ -107,3 +108,7 @@ sentOn t x i image = sent t x i true (sent t x i false image)
 unfoldable pub filled : List ℕ → ℕ → ℕ → ℕ → List ℕ
 filled image from zero value = image
 filled image from (suc k) value = set (filled image from k value) (from + k) value
+
+-- all bytes are 0
+abbrev pub Blank : List ℕ → Type 0
+Blank image = (j : ℕ) → j < length image → byteAt image j ≡ 0
