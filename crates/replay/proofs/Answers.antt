@@ -6,14 +6,28 @@ use mathlib.Core.List.{List}
 use lib.ListN.{length}
 use borrow.Author.Tests.{eqb-true}
 use Rattle.paper.specs.declared.Answer.{Answer}
-use Rattle.paper.specs.Table.{tableOf}
-use Rattle.paper.specs.State.{fresh}
+use Rattle.paper.specs.Table.{Table, tableOf}
+use Rattle.paper.specs.State.{State, fresh}
 use Rattle.paper.specs.Image.{imageLength, imageOf, stateOf, fits, sound}
 use Rattle.paper.specs.Refusals.{Refusal, accepted, refusal, tableRefusal, imageRefusal, lengthRefusal}
 use Rattle.paper.specs.Calls.{refusedWith, reported, answered, left, freshAnswer, freshImage, reportAnswer}
 use Rattle.table.proofs.Laws.{accepted-laws}
 use Rattle.marks.specs.Lent.{Lent}
+use Rattle.automaton.specs.Tried.{Reported}
+use Rattle.automaton.specs.declared.Report.{Report}
 use Rattle.replay.proofs.Order.{answered-table, left-table, answered-image, left-image, refusal-behind, twelve}
+
+-- a report, behind a refusal, its place and the steps taken
+pub told : {t : Table} {s : State} {r : Report} (number place steps : ℕ) → Reported t s r → record { refusal = number; place = place; steps = steps; outcome = r .outcome; root = r .root; waiting = r .waiting } ≡ reported (record { number = number; place = place }) steps t s
+told number place steps r j =
+    record {
+      refusal = number;
+      place = place;
+      steps = steps;
+      outcome = r .outcome j;
+      root = r .root j;
+      waiting = r .waiting j;
+    }
 
 -- the table's answer tells whether the table is accepted
 module _ (upload : List ℕ) {r : Answer} (e : r ≡ refusedWith (tableRefusal upload)) where

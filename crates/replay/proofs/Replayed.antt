@@ -1,7 +1,8 @@
 -- What a replay answers, case by case.
-use Prim.Native.Nat.{ℕ, zero, suc, _≤_}
+use Prim.Native.Nat.{ℕ, zero, suc, _≤_, _<_}
 use native.Mathlib.Omega.{arith}
-use lib.ListN.{length, take, length-take}
+use lib.ListN.{length, take, length-take, replicate, length-replicate, getD-replicate}
+use lib.Seq.{getD-take}
 use mathlib.Core.Bool.{Bool, true, false}
 use mathlib.Core.Path.{_≡_, refl, ap, subst⁻¹, _∙_}
 use mathlib.Core.Logic.{inl}
@@ -14,6 +15,7 @@ use Rattle.paper.specs.State.{State, fresh}
 use Rattle.paper.specs.Actions.{refusedBy, stateAfter}
 use Rattle.paper.specs.Refusals.{Refusal, accepted, tableRefusal}
 use Rattle.paper.specs.Calls.{refusedWith, reported, answered, Replayed, actionOf, replayFrom, replayed, replayBehind, replayAnswer}
+use Rattle.image.specs.Parts.{Blank}
 use Rattle.replay.proofs.Order.{table-accepted, answered-table}
 use Rattle.replay.proofs.Acted.{OfAction, of-action}
 use Rattle.replay.proofs.Stepped.{answered-action, first-alone}
@@ -60,3 +62,10 @@ module _ (upload : List ℕ) where
 -- the first k bytes of a list of k or more
 pub taken-length : (k : ℕ) (l : List ℕ) → k ≤ length l → k ≡ length (take k l)
 taken-length k l h = simp length-take (omega arith)
+
+-- bytes of a list of zeros, as far as it is taken
+pub taken-blank : (k n : ℕ) → k ≤ n → Blank (take k (replicate n 0))
+taken-blank k n h j low =
+    let whole : length {A = ℕ} (replicate n 0) ≡ n = length-replicate {A = ℕ} n 0 in
+    let end = taken-length k (replicate n 0) (omega arith) in
+    getD-take {A = ℕ} k (replicate n 0) j 0 (omega arith) ∙ getD-replicate {A = ℕ} n j 0 0 (omega arith)

@@ -12,6 +12,7 @@ ghost use Rattle.paper.specs.Refusals.{tableRefusal};
 ghost use Rattle.paper.specs.Calls.{refusedWith, reported, reportAnswer, listOfImage, listAnswer, listBuffer, freshAnswer, freshImage, stepAnswer, stepImage, replayed, replayAnswer, runAnswer, runImage};
 ghost use Rattle.paper.specs.Runner.{longest};
 ghost use Rattle.marks.specs.Lent.{Lent};
+ghost use Rattle.image.specs.Parts.{Blank};
 ghost use Rattle.replay.specs.Taken.{Taken};
 ghost use Rattle.replay.specs.Replaying.{ReplayedTo};
 ghost use Rattle.replay.specs.Running.{Advanced, RanTo};
@@ -227,12 +228,12 @@ fn act_at(upload: &[u8], image: &mut [u8], i: usize) -> u8
     act(upload, image, upload[at], upload[at + 1], upload[at + 2])
 }
 
-// Makes the image fresh and takes the actions in turn, until one is refused or none is left.
+// Makes a blank image fresh and takes the actions in turn, until one is refused or none is left.
 fn replay_into(upload: &[u8], image: &mut [u8]) -> Stopped
-    requires { ⌜ Lent (now upload) (now image) ⌝ }
+    requires { ⌜ Lent (now upload) (now image) × Blank (now image) ⌝ }
     ensures { λ r. ⌜ ReplayedTo (now (upload .entry)) r (now (image .exit)) ⌝ }
 {
-    image::make_fresh(upload, image);
+    image::wake(upload, image);
     let a = upload::actions(upload);
     let mut i: usize = 0;
     while i < a {
@@ -253,13 +254,21 @@ fn replay_into(upload: &[u8], image: &mut [u8]) -> Stopped
     }
 }
 
-// Replays into a lent image, and reports.
+// Replays into a blank image, and reports.
 fn replay_on(upload: &[u8], image: &mut [u8]) -> paper::Answer
-    requires { ⌜ Lent (now upload) (now image) ⌝ }
+    requires { ⌜ Lent (now upload) (now image) × Blank (now image) ⌝ }
     ensures { λ r. ⌜ r ≡ reported (replayed (now (upload .entry)) .refusal) (replayed (now (upload .entry)) .steps) (tableOf (now (upload .entry))) (replayed (now (upload .entry)) .state) ⌝ }
 {
     let stopped = replay_into(upload, image);
-    reporting(upload, image, stopped.number, stopped.place, stopped.steps)
+    let report = automaton::report_of(&*upload, &*image);
+    paper::Answer {
+        refusal: stopped.number,
+        place: stopped.place,
+        steps: stopped.steps,
+        outcome: report.outcome,
+        root: report.root,
+        waiting: report.waiting,
+    }
 }
 
 // Replay: the actions of an upload, from the fresh state.

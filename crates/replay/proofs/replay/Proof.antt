@@ -3,7 +3,7 @@ use mathlib.Core.Path.{sym, _∙_}
 use denote.Ref.{now}
 use Rattle.table.proofs.Laws.{accepted-laws}
 use Rattle.replay.proofs.Answers.{table-good, table-bad}
-use Rattle.replay.proofs.Replayed.{replay-table, replay-done, taken-length}
+use Rattle.replay.proofs.Replayed.{replay-table, replay-done, taken-length, taken-blank}
 use Rattle.replay.proofs.replay.Statement.{statement}
 use Rattle.replay.proofs.replay.Tie as tie
 
@@ -31,11 +31,13 @@ replay-on-requires : tie.Need-replay-on-requires
 replay-on-requires c κs =
     let k = c .before .image-length in
     let at = c .before .before in
-    let up = now (at .before .before .before .before .args .upload) in
-    record {
-      table = accepted-laws up (table-good up (at .before .before .table-answer .ensures) (at .if1 .left));
-      fits = sym (taken-length (k .result) _ (k .ensures .1)) ∙ k .ensures .0;
-    }
+    let up = now (at .before .before .before .before .args .upload) in (
+      record {
+        table = accepted-laws up (table-good up (at .before .before .table-answer .ensures) (at .if1 .left));
+        fits = sym (taken-length (k .result) _ (k .ensures .1)) ∙ k .ensures .0;
+      },
+      taken-blank (k .result) 315 (k .ensures .1),
+    )
 
 returns-2 : tie.Need-returns-2
 returns-2 c =

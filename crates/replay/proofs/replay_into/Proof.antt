@@ -14,8 +14,8 @@ Inv-loop upload image₀ a i₀ image i = (i ≤ a) × (a ≡ actionsOf upload) 
 abbrev μ-loop : tie.MeasureT-loop
 μ-loop upload image₀ a i₀ image i = a - i
 
-make-fresh-requires : tie.Need-make-fresh-requires Inv-loop μ-loop
-make-fresh-requires c κs = search needs
+wake-requires : tie.Need-wake-requires Inv-loop μ-loop
+wake-requires c κs = search needs
 
 actions-requires : tie.Need-actions-requires Inv-loop μ-loop
 actions-requires c κs = search needs
@@ -23,7 +23,7 @@ actions-requires c κs = search needs
 loop-holds : tie.Need-loop-holds Inv-loop μ-loop
 loop-holds c =
     let at = c .before .before .before .before .before .before .before in
-    (search needs, c .actions .ensures .0, begins (now (at .args .upload)) (now (at .args .image)) _ (at .pre) (c .before .before .before .make-fresh .ensures))
+    (search needs, c .actions .ensures .0, begins (now (at .args .upload)) (now (at .args .image)) _ (at .pre .0) (c .before .before .before .wake .ensures))
 
 act-at-requires : tie.Need-act-at-requires Inv-loop μ-loop
 act-at-requires c κs =
@@ -78,7 +78,7 @@ replay-into-spec =
     (tie.spec
     Inv-loop
     μ-loop
-    make-fresh-requires
+    wake-requires
     actions-requires
     loop-holds
     act-at-requires

@@ -1,16 +1,18 @@
+-- `replay_on` meets its contract: the report is of the state that the replay came to.
 use borrow.Author.Needs.{needs}
 use mathlib.Core.Path.{sym, ap, _∙_}
 use denote.Ref.{now}
 use Rattle.paper.specs.Table.{tableOf}
 use Rattle.paper.specs.Calls.{Replayed, reported}
+use Rattle.replay.proofs.Answers.{told}
 use Rattle.replay.proofs.replay_on.Statement.{statement}
 use Rattle.replay.proofs.replay_on.Tie as tie
 
 replay-into-requires : tie.Need-replay-into-requires
 replay-into-requires c κs = search needs
 
-reporting-requires : tie.Need-reporting-requires
-reporting-requires c κs = search needs
+report-of-requires : tie.Need-report-of-requires
+report-of-requires c κs = search needs
 
 same-length : tie.Need-same-length
 same-length c = search needs
@@ -19,7 +21,9 @@ returns : tie.Need-returns
 returns c =
     let done = c .before .before .before .before in
     let up = now (done .before .before .before .before .args .upload) in
-    c .reporting .ensures ∙ ap (λ (w : Replayed). reported (w .refusal) (w .steps) (tableOf up) (w .state)) (sym (done .replay-into .ensures .is))
+    told (done .replay-into .result .number) (done .replay-into .result .place) (done .replay-into .result .steps) (c .report-of .ensures)
+    ∙ ap (λ (w : Replayed). reported (w .refusal) (w .steps) (tableOf up) (w .state)) (sym (done .replay-into .ensures .is))
 
 pub replay-on-spec : {M : Type 1} → statement M
-replay-on-spec = tie.close (tie.spec replay-into-requires reporting-requires same-length returns)
+replay-on-spec =
+    tie.close (tie.spec replay-into-requires report-of-requires same-length returns)
