@@ -114,11 +114,10 @@ fn lacks_room(upload: &[u8], image: &[u8], buffer: &[u8]) -> bool
     requires { ⌜ Lent (now upload) (now image) ⌝ }
     ensures { λ r. ⌜ r ≡ ltb (length (now (buffer .entry))) (length (listOfImage (now (upload .entry)) (now (image .entry)))) ⌝ }
 {
-    if buffer.len() < most_listed(upload) {
-        buffer.len() < 3 * listing::count_listed(upload, image)
-    } else {
-        false
+    if most_listed(upload) <= buffer.len() {
+        return false;
     }
+    buffer.len() < 3 * listing::count_listed(upload, image)
 }
 
 // List: the possible steps of a lent image, into a lent buffer.
