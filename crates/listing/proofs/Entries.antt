@@ -22,7 +22,7 @@ names-link kind low high e =
     let five = eqb-false kind 5 (neither .1) in
     rw (le-leb 2 kind (omega arith), le-leb kind 4 (omega arith))
 
-joined-none : (n : ℕ) (f : ℕ → List ℕ) → ((y : ℕ) → y < n → f y ≡ []) → joined n f ≡ []
+pub joined-none : (n : ℕ) (f : ℕ → List ℕ) → ((y : ℕ) → y < n → f y ≡ []) → joined n f ≡ []
 unfolding joined
 joined-none zero f h = refl
 joined-none (suc n) f h =

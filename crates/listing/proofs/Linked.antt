@@ -1,6 +1,6 @@
 -- A table of links, link by link.
 use Prim.Native.Nat.{ℕ, _+_, _<_}
-use mathlib.Core.Bool.{Bool, true, false, cond, _&&_, _||_, and-false, and-true, or-false}
+use mathlib.Core.Bool.{Bool, true, false, cond, _&&_, _||_, and-false, and-true, or-false, false≢true}
 use mathlib.Core.List.{List}
 use mathlib.Core.Path.{_≡_, refl, sym, ap, _∙_}
 use native.Mathlib.Numerals.{add-one}
@@ -11,6 +11,7 @@ use lib.ListN.{length, length-set, set, getD, replicate, length-replicate, getD-
 use lib.Seq.{getD-set-same, getD-set-other}
 use lib.Dec.{eqb}
 use Rattle.counting.specs.Count.{least}
+use Rattle.counting.proofs.Booleans.{or-neither}
 use Rattle.paper.specs.Table.{Table}
 use Rattle.paper.specs.Actions.{joins, linkBetween}
 use Rattle.listing.specs.Links.{noted, Noted}
@@ -21,6 +22,27 @@ set-at l k y i h = go (ℕ-discrete k y)
     go : Dec (k ≡ y) → getD (set l k i) y 0 ≡ cond (eqb k y) i (getD l y 0)
     go (yes e) = rw (eq-eqb k y e, ← e) (getD-set-same l k i 0 h)
     go (no e) = rw (ne-eqb k y e) (getD-set-other l k y i 0 (λ z. e (sym z)))
+
+pub other-below : (x a b n : ℕ) → a < n → b < n → cond (eqb a x) b a < n
+other-below x a b n h k = go (eqb a x)
+  where
+    go : (c : Bool) → cond c b a < n
+    go true = k
+    go false = h
+
+-- one of a and b is x, and neither is
+pub noted-other : (l : List ℕ) (x i a b : ℕ) → (eqb a x || eqb b x) ≡ true → set l (cond (eqb a x) b a) i ≡ noted l x i a b
+noted-other l x i a b = go (eqb a x) (eqb b x)
+  where
+    go : (c d : Bool) → (c || d) ≡ true → set l (cond c b a) i ≡ cond c (set l b i) (cond d (set l a i) l)
+    go true d h = refl
+    go false true h = refl
+    go false false h = absurd (false≢true h)
+
+pub noted-neither : (l : List ℕ) (x i a b : ℕ) → (eqb a x || eqb b x) ≡ false → l ≡ noted l x i a b
+noted-neither l x i a b h =
+    let none = or-neither (eqb a x) (eqb b x) h in
+    rw (none .0, none .1)
 
 noted-at : (l : List ℕ) (x i a b y : ℕ) →
     (a ≡ b → ⊥) →

@@ -1,7 +1,8 @@
 // The list of possible steps of a lent image.
 ghost use mathlib.Core.Path.{_≡_};
 ghost use Prim.Native.Nat.{_+_, _*_, _<_, _≤_};
-ghost use mathlib.Core.Bool.{true, false, cond};
+ghost use mathlib.Core.Bool.{true, false, not, cond, _&&_};
+ghost use lib.Dec.{eqb};
 ghost use mathlib.Core.List.{[], _∷_};
 ghost use lib.ListN.{length, set};
 ghost use Rattle.paper.specs.Upload.{nodesOf, linksOf};
@@ -48,17 +49,21 @@ fn put_if(out: &mut [u8], count: usize, kind: usize, x: usize, y: usize, listed:
     }
 }
 
+// The one of a and b that is not x, where one of them is.
+fn other(x: usize, a: usize, b: usize) -> usize
+    ensures { λ r. ⌜ r ≡ cond (eqb a x) b a ⌝ }
+{
+    if a == x { b } else { a }
+}
+
 // Notes link i, from a to b, at the node that it joins to x.
 fn note_link(table: &mut [u8], x: usize, i: usize, a: usize, b: usize)
     requires { ⌜ (i < 256) × (a < length (now table)) × (b < length (now table)) ⌝ }
     ensures { λ _. ⌜ now (table .exit) ≡ noted (now (table .entry)) x i a b ⌝ }
 {
-    if a == x {
-        table[b] = i as u8;
-    } else {
-        if b == x {
-            table[a] = i as u8;
-        }
+    if (a == x) | (b == x) {
+        let y = other(x, a, b);
+        table[y] = i as u8;
     }
 }
 
@@ -156,6 +161,14 @@ fn link_row(
     next
 }
 
+// No step of kind 4 goes from x, which does not contend; other kinds are not ruled out.
+fn ruled_out(upload: &[u8], image: &[u8], kind: usize, x: usize) -> bool
+    requires { ⌜ Lent (now upload) (now image) × (x < nodesOf (now upload)) ⌝ }
+    ensures { λ r. ⌜ r ≡ (eqb kind 4 && not (shown (now (upload .entry)) (now (image .entry)) .contending x)) ⌝ }
+{
+    (kind == 4) & !marks::contending(upload, image, x)
+}
+
 // Writes the entries of kinds 2 to 4 from x.
 fn link_entries(
     upload: &[u8],
@@ -168,6 +181,9 @@ fn link_entries(
     requires { ⌜ Lent (now upload) (now image) × (x < nodesOf (now upload)) × (ofNode kind ≡ false) × (ofLink kind ≡ true) × (kind ≤ 5) × (count < 50000) ⌝ }
     ensures { λ r. ⌜ Wrote (now (out .entry)) count (entriesAt (tableOf (now (upload .entry))) (shown (now (upload .entry)) (now (image .entry))) kind x) (now (out .exit)) r × (r ≤ count + 63) ⌝ }
 {
+    if ruled_out(upload, image, kind, x) {
+        return count;
+    }
     let m = upload::links(upload) as u8;
     let mut table = [m; 64];
     note_links(upload, &mut table, x);
