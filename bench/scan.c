@@ -290,10 +290,9 @@ static uint64_t scan_list(const uint8_t *upload, size_t length, const uint8_t *i
     struct table t = table_of(upload);
     if (image_length != t.n + 2 * t.m || !sound(t, image))
         return packed(refused(12, 0));
-    size_t count = list_into(t, image, out, 0);
-    if (3 * count > out_length)
+    if (out_length < 6 * t.n + 12 * t.m && out_length < 3 * list_into(t, image, out, 0))
         return packed(refused(13, 0));
-    list_into(t, image, out, out_length);
+    size_t count = list_into(t, image, out, out_length);
     return packed(report(t, image, 0, 0, (unsigned)count));
 }
 
