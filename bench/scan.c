@@ -70,20 +70,21 @@ static int sound(struct table t, const uint8_t *image)
     return good;
 }
 
-/* directions into x that lack child: byte d of the links is the source of direction d, byte d ^ 1 its target */
-static unsigned unheard(struct table t, const uint8_t *image, unsigned x)
+/* at most so many directions into x lack child: byte d of the links is the source of direction d, byte d ^ 1 its target */
+static int unheard_within(struct table t, const uint8_t *image, unsigned x, unsigned few)
 {
     unsigned count = 0;
     for (unsigned d = 0; d < 2 * t.m; d++)
-        count += (t.link[d ^ 1] == x) & ~image[t.n + d];
-    return count;
+        if (t.link[d ^ 1] == x && !(image[t.n + d] & CHILD) && ++count > few)
+            return 0;
+    return 1;
 }
 
 static int node_possible(struct table t, const uint8_t *image, unsigned kind, unsigned x)
 {
     if (kind == 1)
-        return image[x] & WAITING && unheard(t, image, x) <= 1;
-    return !(image[x] & ROOT) && unheard(t, image, x) == 0;
+        return image[x] & WAITING && unheard_within(t, image, x, 1);
+    return !(image[x] & ROOT) && unheard_within(t, image, x, 0);
 }
 
 static int direction_possible(struct table t, const uint8_t *image, unsigned kind, unsigned d)
@@ -98,11 +99,9 @@ static int direction_possible(struct table t, const uint8_t *image, unsigned kin
 
 static int moving(struct table t, const uint8_t *image)
 {
-    for (unsigned x = 0; x < t.n; x++) {
-        unsigned count = unheard(t, image, x);
-        if ((image[x] & WAITING && count <= 1) || (!(image[x] & ROOT) && count == 0))
+    for (unsigned x = 0; x < t.n; x++)
+        if (node_possible(t, image, 1, x) || node_possible(t, image, 5, x))
             return 1;
-    }
     for (unsigned d = 0; d < 2 * t.m; d++)
         if (image[t.n + d] & MESSAGE || image[t.link[d]] & image[t.link[d ^ 1]] & CONTENDING)
             return 1;
@@ -210,6 +209,8 @@ static size_t list_into(struct table t, const uint8_t *image, uint8_t *out, size
                 }
                 continue;
             }
+            if (kind == 4 && !(image[x] & CONTENDING))
+                continue;
             uint8_t direction[63];
             memset(direction, 255, t.n);
             for (unsigned d = 0; d < 2 * t.m; d++)
