@@ -16,6 +16,10 @@ unfolding digits
 digits-few zero k h = refl
 digits-few (suc more) k h = rw (lt-ltb k 10 h)
 
+pub digits-two : (more k : ℕ) → 10 ≤ k → k < 100 → digits (suc more) k ≡ (digit (k / 10) ∷ []) ++ (digit (k % 10) ∷ [])
+unfolding digits
+digits-two more k low high = rw (le-ltb k 10 low, digits-few more (k / 10) (omega arith))
+
 -- of a number of ten or more
 pub record Longer (more k : ℕ) : Type 0 where
   pub left : 0 < more

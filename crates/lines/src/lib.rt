@@ -31,6 +31,15 @@ fn put_digits(out: &mut [u8], at: usize, more: usize, k: usize) -> usize
     put(out, next, 48 + (k % 10) as u8)
 }
 
+// A number of two digits in decimal.
+fn put_two(out: &mut [u8], at: usize, k: usize) -> usize
+    requires { ⌜ (at < 2 ^ 31) × (10 ≤ k) × (k < 100) ⌝ }
+    ensures { λ r. ⌜ Wrote (now (out .entry)) at (decimal k) (now (out .exit)) r × (r ≤ at + 2) ⌝ }
+{
+    let next = put(out, at, 48 + (k / 10) as u8);
+    put(out, next, 48 + (k % 10) as u8)
+}
+
 // A number below 100,000 in decimal.
 fn put_decimal(out: &mut [u8], at: usize, k: usize) -> usize
     requires { ⌜ (at < 2 ^ 31) × (k < 100000) ⌝ }
@@ -39,7 +48,11 @@ fn put_decimal(out: &mut [u8], at: usize, k: usize) -> usize
     if k < 10 {
         put(out, at, 48 + k as u8)
     } else {
-        put_digits(out, at, 4, k)
+        if k < 100 {
+            put_two(out, at, k)
+        } else {
+            put_digits(out, at, 4, k)
+        }
     }
 }
 

@@ -13,6 +13,9 @@ add-put c = search needs
 put-requires : tie.Need-put-requires
 put-requires c κs = search needs
 
+put-two-requires : tie.Need-put-two-requires
+put-two-requires c κs = search needs
+
 put-digits-requires : tie.Need-put-digits-requires
 put-digits-requires c κs = search needs
 
@@ -29,9 +32,15 @@ same-length-2 : tie.Need-same-length-2
 same-length-2 c = search needs
 
 returns-2 : tie.Need-returns-2
-returns-2 c =
+returns-2 c = search needs
+
+same-length-3 : tie.Need-same-length-3
+same-length-3 c = search needs
+
+returns-3 : tie.Need-returns-3
+returns-3 c =
     let put = c .before .before in
-    let at = put .before .before .before .before in
+    let at = put .before .before .before .before .before in
     (put .put-digits .ensures, omega (arith, digits-most 4 (at .args .k), put .put-digits .ensures .place))
 
 pub put-decimal-spec : {M : Type 1} → statement M
@@ -41,8 +50,11 @@ put-decimal-spec =
     cast-put
     add-put
     put-requires
+    put-two-requires
     put-digits-requires
     same-length
     returns
     same-length-2
-    returns-2)
+    returns-2
+    same-length-3
+    returns-3)
