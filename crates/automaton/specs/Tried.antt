@@ -18,6 +18,10 @@ use Rattle.automaton.specs.declared.Report.{Report}
 abbrev pub shown : List ℕ → List ℕ → State
 shown upload image = stateOf (tableOf upload) image
 
+-- link i is one of x's
+abbrev pub touching : Table → ℕ → ℕ → Bool
+touching t x i = eqb (t .end i false) x || eqb (t .end i true) x
+
 -- the direction (i, b) goes to x and lacks child
 abbrev pub lacks : Table → State → ℕ → ℕ → Bool → Bool
 lacks t s x i b = eqb (target t i b) x && not (s .child i b)

@@ -4,42 +4,30 @@ ghost use Prim.Native.Nat.{_+_, _*_, _<_, _≤_};
 ghost use Rattle.paper.specs.Upload.{nodesOf, linksOf};
 ghost use Rattle.paper.specs.Table.{tableOf};
 ghost use Rattle.paper.specs.Steps.{unheard, possible, addChild, acknowledge, resolve};
-ghost use mathlib.Core.Bool.{cond, true, false, _||_};
-ghost use lib.Dec.{eqb, leb};
+ghost use mathlib.Core.Bool.{cond, true};
+ghost use lib.Dec.{leb};
 ghost use Rattle.paper.specs.Actions.{linkBetween, nodeStep, linkStep, readNode, readLink, names, directionFrom};
 ghost use Rattle.counting.specs.Count.{some};
 ghost use Rattle.paper.specs.Report.{movesAt, movesOn, moving, roots, rootOf, waitingCount, outcomeAtRest, outcomeOf};
 ghost use Rattle.table.specs.Accepted.{Accepted};
 ghost use Rattle.marks.specs.Lent.{Lent};
-ghost use Rattle.automaton.specs.Tried.{shown, lacks, lacking, markAllows, linkMoves, TriedAs, Reported};
-
-// The direction of link i goes to x and lacks child.
-fn lacks_child(upload: &[u8], image: &[u8], x: usize, i: usize, back: bool) -> bool
-    requires { ⌜ Lent (now upload) (now image) × (i < linksOf (now upload)) ⌝ }
-    ensures { λ r. ⌜ r ≡ lacks (tableOf (now (upload .entry))) (shown (now (upload .entry)) (now (image .entry))) x i back ⌝ }
-{
-    if upload::end(upload, i, !back) == x {
-        !marks::child(upload, image, i, back)
-    } else {
-        false
-    }
-}
-
-// How many of the two directions of link i go to x and lack child.
-fn lacking_on(upload: &[u8], image: &[u8], x: usize, i: usize) -> usize
-    requires { ⌜ Lent (now upload) (now image) × (i < linksOf (now upload)) ⌝ }
-    ensures { λ r. ⌜ (r ≡ lacking (tableOf (now (upload .entry))) (shown (now (upload .entry)) (now (image .entry))) x i) × (r ≤ 2) ⌝ }
-{
-    lacks_child(upload, image, x, i, false) as usize
-        + lacks_child(upload, image, x, i, true) as usize
-}
+ghost use Rattle.automaton.specs.Tried.{shown, touching, lacking, markAllows, linkMoves, TriedAs, Reported};
 
 // Link i is one of x's.
 fn touches(upload: &[u8], x: usize, i: usize) -> bool
     requires { ⌜ Accepted (now upload) × (i < linksOf (now upload)) ⌝ }
-    ensures { λ r. ⌜ r ≡ (eqb (tableOf (now (upload .entry)) .end i false) x || eqb (tableOf (now (upload .entry)) .end i true) x) ⌝ }
+    ensures { λ r. ⌜ r ≡ touching (tableOf (now (upload .entry))) x i ⌝ }
 {
     (upload::end(upload, i, false) == x) | (upload::end(upload, i, true) == x)
+}
+
+// How many directions of link i, one of x's, go to x and lack child: one or none.
+fn lacking_on(upload: &[u8], image: &[u8], x: usize, i: usize) -> usize
+    requires { ⌜ Lent (now upload) (now image) × (i < linksOf (now upload)) × (touching (tableOf (now upload)) x i ≡ true) ⌝ }
+    ensures { λ r. ⌜ (r ≡ lacking (tableOf (now (upload .entry))) (shown (now (upload .entry)) (now (image .entry))) x i) × (r ≤ 1) ⌝ }
+{
+    let back = upload::end(upload, i, false) == x;
+    !marks::child(upload, image, i, back) as usize
 }
 
 // At most so many directions into x lack child.

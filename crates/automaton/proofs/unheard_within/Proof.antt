@@ -37,7 +37,8 @@ touches-requires : tie.Need-touches-requires Inv-loop μ-loop
 touches-requires c κs = search needs
 
 lacking-on-requires : tie.Need-lacking-on-requires Inv-loop μ-loop
-lacking-on-requires c κs = search needs
+lacking-on-requires c κs =
+    (c .before .before .before .before .before .before .before .pre, search needs, sym (c .before .touches .ensures) ∙ c .if1 .taken)
 
 add-count : tie.Need-add-count Inv-loop μ-loop
 add-count c = search needs
