@@ -90,6 +90,7 @@ int main(int count, char **words_of_call)
         fprintf(stderr, "bench: rounds are 1 to %d\n", MOST_ROUNDS);
         return 2;
     }
+    stand_aside();
     char row[80];
     printf("| job | archive, ns a call | archive / C that scans | archive / C with words |\n|---|---|---|---|\n");
     full_uploads(63);

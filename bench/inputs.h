@@ -46,4 +46,7 @@ void steps_on_images(unsigned n, unsigned m);
 void refused_tables(void);
 void refused_actions(void);
 
+/* does nothing; how long it is moves the code behind it */
+void stand_aside(void);
+
 #endif

@@ -12,7 +12,7 @@ ghost use Rattle.paper.specs.Steps.{effect, childrenKnown, addChild, acknowledg
 ghost use Rattle.paper.specs.Actions.{nodeStep, linkStep};
 ghost use Rattle.paper.specs.Image.{stateOf, imageOf, soundDirection, sound};
 ghost use Rattle.marks.specs.Lent.{Lent};
-ghost use Rattle.image.specs.Parts.{stoppedByte, contendingByte, rootByte, childByte, messageByte, sent, sentOn, filled, Blank};
+ghost use Rattle.image.specs.Parts.{stoppedByte, contendingByte, rootByte, childByte, messageByte, sent, sentOn, filled};
 ghost use Rattle.image.specs.Taken.{Named, stepOf};
 
 // The byte of a node is in range.
@@ -102,10 +102,10 @@ pub fn make_fresh(upload: &[u8], image: &mut [u8])
     fill(image, n, 2 * m, 0);
 }
 
-// Makes the fresh image of a blank one: every node waits.
+// Every node waits, without another mark; the bytes of the directions stay.
 pub fn wake(upload: &[u8], image: &mut [u8])
-    requires { ⌜ Lent (now upload) (now image) × Blank (now image) ⌝ }
-    ensures { λ _. ⌜ now (image .exit) ≡ imageOf (tableOf (now (upload .entry))) (fresh (tableOf (now (upload .entry)))) ⌝ }
+    requires { ⌜ Lent (now upload) (now image) ⌝ }
+    ensures { λ _. ⌜ now (image .exit) ≡ filled (now (image .entry)) 0 (nodesOf (now (upload .entry))) 1 ⌝ }
 {
     let n = upload::nodes(upload);
     fill(image, 0, n, 1);

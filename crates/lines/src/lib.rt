@@ -36,8 +36,8 @@ fn put_two(out: &mut [u8], at: usize, k: usize) -> usize
     requires { ⌜ (at < 2 ^ 31) × (10 ≤ k) × (k < 100) ⌝ }
     ensures { λ r. ⌜ Wrote (now (out .entry)) at (decimal k) (now (out .exit)) r × (r ≤ at + 2) ⌝ }
 {
-    let next = put(out, at, 48 + (k / 10) as u8);
-    put(out, next, 48 + (k % 10) as u8)
+    let second = put(out, at, 48 + (k / 10) as u8);
+    put(out, second, 48 + (k % 10) as u8)
 }
 
 // A number below 100,000 in decimal.

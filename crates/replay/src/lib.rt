@@ -259,14 +259,14 @@ fn replay_on(upload: &[u8], image: &mut [u8]) -> paper::Answer
     ensures { λ r. ⌜ r ≡ reported (replayed (now (upload .entry)) .refusal) (replayed (now (upload .entry)) .steps) (tableOf (now (upload .entry))) (replayed (now (upload .entry)) .state) ⌝ }
 {
     let stopped = replay_into(upload, image);
-    let report = automaton::report_of(&*upload, &*image);
+    let end = automaton::report_of(&*upload, &*image);
     paper::Answer {
         refusal: stopped.number,
         place: stopped.place,
         steps: stopped.steps,
-        outcome: report.outcome,
-        root: report.root,
-        waiting: report.waiting,
+        outcome: end.outcome,
+        root: end.root,
+        waiting: end.waiting,
     }
 }
 

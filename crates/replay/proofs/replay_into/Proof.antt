@@ -1,9 +1,11 @@
 use borrow.Author.Needs.{needs}
 use native.Mathlib.Omega.{arith}
 use Prim.Native.Nat.{_≤_, _-_}
-use mathlib.Core.Path.{_≡_, subst}
+use mathlib.Core.Path.{_≡_, subst, _∙_}
 use denote.Ref.{now}
 use Rattle.paper.specs.Upload.{actionsOf}
+use Rattle.paper.specs.Table.{tableOf}
+use Rattle.image.proofs.Filled.{fresh-woken}
 use Rattle.replay.proofs.Replaying.{Halfway, begins, goes-on, stops, ends}
 use Rattle.replay.proofs.replay_into.Statement.{statement}
 use Rattle.replay.proofs.replay_into.Tie as tie
@@ -23,7 +25,9 @@ actions-requires c κs = search needs
 loop-holds : tie.Need-loop-holds Inv-loop μ-loop
 loop-holds c =
     let at = c .before .before .before .before .before .before .before in
-    (search needs, c .actions .ensures .0, begins (now (at .args .upload)) (now (at .args .image)) _ (at .pre .0) (c .before .before .before .wake .ensures))
+    let up = now (at .args .upload) in
+    let fresh = c .before .before .before .wake .ensures ∙ fresh-woken (tableOf up) (now (at .args .image)) (at .pre .0 .fits) (at .pre .1) in
+    (search needs, c .actions .ensures .0, begins up (now (at .args .image)) _ (at .pre .0) fresh)
 
 act-at-requires : tie.Need-act-at-requires Inv-loop μ-loop
 act-at-requires c κs =
