@@ -44,7 +44,7 @@ returns c =
     let second = third .before .before .before .before in
     let first = second .before .before .before .before in
     let at = first .before .before .before .before .before .before .before .before .before in
-    (rw (line-halves (at .args .number) (at .args .answer)) at (then (then (then (first .put-decimal .ensures .0) (second .put-three .ensures .0)) (third .put-three2 .ensures .0)) (c .before .before .put .ensures)), omega (arith, first .put-decimal .ensures .1, second .put-three .ensures .1, third .put-three2 .ensures .1))
+    (rw (← line-halves (at .args .number) (at .args .answer)) (then (then (then (first .put-decimal .ensures .0) (second .put-three .ensures .0)) (third .put-three2 .ensures .0)) (c .before .before .put .ensures)), omega (arith, first .put-decimal .ensures .1, second .put-three .ensures .1, third .put-three2 .ensures .1))
 
 pub put-line-spec : {M : Type 1} → statement M
 put-line-spec =
