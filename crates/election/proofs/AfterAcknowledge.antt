@@ -6,7 +6,8 @@ use mathlib.Core.Logic.{inl, inr, ⊎-elim}
 use Rattle.paper.specs.Table.{Table, source, target, EndsBelow}
 use Rattle.paper.specs.State.{none, request, acknowledgement, State}
 use Rattle.paper.specs.Steps.{carries, isRequest, at, acknowledge, possible, effect}
-use Rattle.paper.proofs.Tests.{not-not, clash}
+use mathlib.Core.Bool.{Bool·not-not as not-not}
+use Rattle.counting.proofs.Booleans.{clash}
 use Rattle.paper.proofs.Changes.{at-elim}
 use Rattle.election.specs.Local.{Local}
 use Rattle.election.proofs.Updates.{fails, target-back, either, Same, same}

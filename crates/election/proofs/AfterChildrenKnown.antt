@@ -8,7 +8,7 @@ use borrow.Author.Tests.{lt-ltb, eq-eqb, ne-eqb}
 use Rattle.paper.specs.Table.{Table, source, target}
 use Rattle.paper.specs.State.{Message, none, request, acknowledgement, State}
 use Rattle.paper.specs.Steps.{unheard, at, outOf, sends, childrenKnown, possible, effect}
-use Rattle.paper.proofs.Tests.{clash}
+use Rattle.counting.proofs.Booleans.{clash}
 use Rattle.paper.proofs.Changes.{at-elim}
 use Rattle.election.specs.Local.{Local}
 use Rattle.election.proofs.Updates.{either, at-place, at-other}

@@ -6,7 +6,7 @@ use mathlib.Core.Logic.{_⊎_, inl, inr, ⊎-elim}
 use Rattle.paper.specs.Table.{Table, source, target, EndsBelow}
 use Rattle.paper.specs.State.{State}
 use Rattle.paper.specs.Steps.{at, resolve, possible, effect}
-use Rattle.paper.proofs.Tests.{clash}
+use Rattle.counting.proofs.Booleans.{clash}
 use Rattle.paper.proofs.Changes.{at-elim}
 use Rattle.election.specs.Local.{Local}
 use Rattle.election.proofs.Updates.{target-back, either, Same, same}

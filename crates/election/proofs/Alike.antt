@@ -11,7 +11,7 @@ use Rattle.paper.specs.Table.{Table}
 use Rattle.paper.specs.State.{none, State}
 use Rattle.paper.specs.Steps.{Step, childrenKnown, addChild, acknowledge, resolve, becomeRoot, unheard, carries, isRequest, sends, outOf, at, atDirection, possible, effect, after, taken}
 use Rattle.paper.specs.Report.{moving, outcomeOf, outcomeAtRest, roots, waitingCount}
-use Rattle.paper.proofs.Tests.{and-left, and-right, and-both}
+use Rattle.counting.proofs.Booleans.{and-left, and-right, and-both}
 use Rattle.paper.proofs.Changes.{InTable, possible-in-table}
 use Rattle.paper.proofs.Moving.{moves, moving-step}
 use Rattle.election.proofs.Updates.{same-test}

@@ -20,7 +20,7 @@ use Rattle.paper.specs.Runner.{longest, runner}
 use Rattle.paper.specs.Refusals.{Refusal, accepted, given, refusal, tableRefusal, lengthRefusal}
 use Rattle.paper.specs.Calls.{refusedWith, reported, answered, hasState, freshRefusal, runAnswer, replayed, replayBehind, replayAnswer}
 use Rattle.paper.specs.Batch.{headerWrong, spanOutside, partOf, entryAnswer}
-use Rattle.paper.proofs.Tests.{clash}
+use Rattle.counting.proofs.Booleans.{clash}
 use Rattle.paper.proofs.Images.{sound-fresh}
 use Rattle.paper.proofs.Moving.{moving-still}
 use Rattle.table.specs.Accepted.{Accepted}

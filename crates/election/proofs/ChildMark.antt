@@ -7,7 +7,8 @@ use lib.Dec.{eqb}
 use Rattle.paper.specs.Table.{Table, source, target, directions}
 use Rattle.paper.specs.State.{none, request, State}
 use Rattle.paper.specs.Steps.{atDirection}
-use Rattle.paper.proofs.Tests.{not-not, clash}
+use mathlib.Core.Bool.{Bool·not-not as not-not}
+use Rattle.counting.proofs.Booleans.{clash}
 use Rattle.election.specs.Local.{Local}
 use Rattle.election.proofs.Updates.{fails, either, Same, same, on-direction, off-direction, direction-elim}
 use Rattle.election.proofs.Messages.{loaded}

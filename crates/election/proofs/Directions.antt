@@ -7,7 +7,7 @@ use native.Mathlib.Decide.{ℕ-discrete}
 use Rattle.counting.specs.Count.{bit}
 use Rattle.counting.proofs.Sums.{sum-le, sum-term, sum-pair}
 use Rattle.paper.specs.Table.{Table, directions}
-use Rattle.paper.proofs.Tests.{clash}
+use Rattle.counting.proofs.Booleans.{clash}
 use Rattle.election.proofs.Updates.{either, Same}
 
 bit-le : (p q : Bool) → (p ≡ true → q ≡ true) → bit p ≤ bit q

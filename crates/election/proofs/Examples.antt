@@ -17,7 +17,8 @@ use Rattle.paper.specs.Calls.{replayFrom, replayed, replayBehind}
 use Rattle.paper.specs.Stuck.{size, border}
 use Rattle.paper.specs.Replays.{P3, P8, P9, P10, P12-table}
 use Rattle.paper.specs.Examples.{twoLoops, tail}
-use Rattle.paper.proofs.Tests.{all-true, clash}
+use Rattle.counting.proofs.Booleans.{clash}
+use Rattle.counting.proofs.Tests.{all-true}
 use Rattle.paper.proofs.OnePiece.{one-piece}
 use Rattle.paper.proofs.Moving.{moving-still}
 use Rattle.election.specs.Demand.{reachedBy, NamesFrom, LogIsRun, IsLogOf}

@@ -5,7 +5,7 @@ use mathlib.Core.Path.{_≡_, refl, sym}
 use borrow.Author.Tests.{lt-ltb}
 use Rattle.paper.specs.Table.{Table, source, EndsBelow}
 use Rattle.paper.specs.State.{fresh}
-use Rattle.paper.proofs.Tests.{clash}
+use Rattle.counting.proofs.Booleans.{clash}
 use Rattle.election.specs.Local.{Local}
 use Rattle.election.proofs.Messages.{loaded}
 

@@ -17,7 +17,7 @@ use Rattle.paper.specs.Actions.{reading}
 use Rattle.paper.specs.Refusals.{Refusal, accepted, refusal, tableRefusal}
 use Rattle.paper.specs.Calls.{Replayed, reported, answered, trying, replayFrom, replayed, replayBehind, replayAnswer}
 use Rattle.paper.specs.Meanings.{kindOf, firstOf, secondOf}
-use Rattle.paper.proofs.Tests.{and-left, and-right}
+use Rattle.counting.proofs.Booleans.{and-left, and-right}
 use Rattle.paper.proofs.Changes.{InTable, possible-in-table}
 use Rattle.paper.proofs.Readings.{read-step}
 use Rattle.table.specs.Accepted.{Accepted}

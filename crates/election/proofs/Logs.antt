@@ -10,7 +10,7 @@ use Rattle.paper.specs.Table.{tableOf}
 use Rattle.paper.specs.Steps.{Step}
 use Rattle.paper.specs.Refusals.{Refusal, accepted, first, refusal, tableRefusal}
 use Rattle.paper.specs.Calls.{answered, trying, replayed, replayBehind, replayAnswer}
-use Rattle.paper.proofs.Tests.{clash}
+use Rattle.counting.proofs.Booleans.{clash}
 use Rattle.election.specs.Demand.{LogIsRun, RunsAndLogs}
 use Rattle.election.proofs.Replays.{replay-run}
 use Rattle.election.proofs.Refused.{Behind, behind, answered-refusal}

@@ -4,7 +4,7 @@ use mathlib.Core.Path.{_≡_, refl, sym, ap}
 use mathlib.Core.Logic.{_⊎_, inl, inr}
 use Rattle.paper.specs.State.{Message, none, request, acknowledgement}
 use Rattle.paper.specs.Steps.{carries, isRequest, sends}
-use Rattle.paper.proofs.Tests.{clash}
+use Rattle.counting.proofs.Booleans.{clash}
 
 -- a direction that carries a message is not one without
 pub loaded : {A : Type 0} {m : Message} → carries m ≡ true → m ≡ none → A

@@ -12,7 +12,7 @@ use Rattle.paper.specs.State.{State, fresh}
 use Rattle.paper.specs.Stuck.{linksInto}
 use Rattle.paper.specs.Steps.{Step, childrenKnown, addChild, acknowledge, resolve, becomeRoot, unheard, at, possible, effect}
 use Rattle.paper.specs.Report.{waitingCount}
-use Rattle.paper.proofs.Tests.{clash}
+use Rattle.counting.proofs.Booleans.{clash}
 use Rattle.election.specs.Local.{Local}
 use Rattle.election.proofs.Updates.{at-place, at-other}
 use Rattle.election.proofs.Possible.{childrenKnown-possible}

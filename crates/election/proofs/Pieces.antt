@@ -11,7 +11,7 @@ use Rattle.paper.specs.State.{fresh}
 use Rattle.paper.specs.Stuck.{linksInto}
 use Rattle.paper.specs.Steps.{at}
 use Rattle.paper.proofs.OnePiece.{one-piece-cut}
-use Rattle.paper.proofs.Tests.{clash}
+use Rattle.counting.proofs.Booleans.{clash}
 use Rattle.election.proofs.Updates.{target-back, at-place, at-other}
 use Rattle.election.proofs.Into.{into-one, into-two}
 

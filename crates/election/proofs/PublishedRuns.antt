@@ -13,7 +13,7 @@ use Rattle.counting.proofs.Directions.{both-none}
 use Rattle.paper.specs.Table.{Table, source, target, EndsBelow, NoSelfLink, OnePiece}
 use Rattle.paper.specs.State.{none, State, fresh}
 use Rattle.paper.specs.Steps.{Step, unheard, after, Run}
-use Rattle.paper.proofs.Tests.{clash}
+use Rattle.counting.proofs.Booleans.{clash}
 use Rattle.election.specs.Local.{Local}
 use Rattle.election.specs.Invariants.{Published, AllChild, OneAllChild, Invariants}
 use Rattle.election.proofs.Updates.{fails, passes, either, target-back}

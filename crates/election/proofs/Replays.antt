@@ -15,7 +15,7 @@ use Rattle.paper.specs.Steps.{Step, possible, effect, after, taken}
 use Rattle.paper.specs.Actions.{Reading, names, nodeStep, linkStep, directionFrom, reading, refusedBy, stateAfter}
 use Rattle.paper.specs.Refusals.{accepted}
 use Rattle.paper.specs.Calls.{Replayed, actionOf, replayFrom, replayed}
-use Rattle.paper.proofs.Tests.{either, clash, and-left, and-right, and-both}
+use Rattle.counting.proofs.Booleans.{either, clash, and-left, and-right, and-both}
 use Rattle.paper.proofs.Kept.{possible-taken}
 use Rattle.paper.proofs.Readings.{Read, at-node, on-link, not-read, read}
 use Rattle.election.specs.Demand.{NamesFrom, ReplayIsRun}

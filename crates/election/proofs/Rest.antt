@@ -15,7 +15,7 @@ use Rattle.paper.specs.State.{Message, none, request, acknowledgement, State}
 use Rattle.paper.specs.Steps.{childrenKnown, addChild, acknowledge, resolve, becomeRoot, unheard, carries, possible, Still}
 use Rattle.paper.specs.Stuck.{linksInto, Closed}
 use Rattle.paper.specs.Report.{roots, waitingCount}
-use Rattle.paper.proofs.Tests.{clash}
+use Rattle.counting.proofs.Booleans.{clash}
 use Rattle.election.specs.Local.{Local}
 use Rattle.election.proofs.Updates.{fails, passes, either}
 use Rattle.election.proofs.Into.{into-le, into-none}

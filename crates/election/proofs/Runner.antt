@@ -13,7 +13,7 @@ use Rattle.paper.specs.Steps.{Step, possible, effect, after, taken, Still}
 use Rattle.paper.specs.Actions.{reading, refusedBy, stateAfter, listed}
 use Rattle.paper.specs.Runner.{Ran, longest, runFrom}
 use Rattle.paper.specs.Meanings.{NoRepeat, Stands, Ascending, ListsSteps}
-use Rattle.paper.proofs.Tests.{and-both}
+use Rattle.counting.proofs.Booleans.{and-both}
 use Rattle.paper.proofs.Moving.{moving-still}
 use Rattle.paper.proofs.Listed.{lists-steps}
 use Rattle.election.specs.Demand.{RunnerStops, RunnerAlwaysStops}

@@ -8,7 +8,7 @@ use borrow.Author.Tests.{eq-eqb, not-true}
 use Rattle.paper.specs.Table.{Table, target}
 use Rattle.paper.specs.State.{State}
 use Rattle.paper.specs.Steps.{unheard}
-use Rattle.paper.proofs.Tests.{clash}
+use Rattle.counting.proofs.Booleans.{clash}
 use Rattle.election.proofs.Updates.{fails, passes, Same}
 use Rattle.election.proofs.Directions.{directions-le, directions-one, directions-two}
 

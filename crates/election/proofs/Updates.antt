@@ -8,7 +8,7 @@ use lib.Dec.{eqb}
 use borrow.Author.Tests.{eq-eqb, eqb-true}
 use Rattle.paper.specs.Table.{Table, source, target}
 use Rattle.paper.specs.Steps.{at, atDirection}
-use Rattle.paper.proofs.Tests.{not-not}
+use mathlib.Core.Bool.{Bool·not-not as not-not}
 use Rattle.paper.proofs.Changes.{at-away}
 
 -- a test that cannot pass fails, and one that cannot fail passes

@@ -19,11 +19,11 @@ use Rattle.paper.proofs.Readings.{read-once, read-step}
 use Rattle.automaton.specs.Tried.{linkRead, endRead}
 use Rattle.automaton.proofs.Named.{link-link, link-end}
 use Rattle.automaton.proofs.Taken.{OnLink, acts-on-link}
-use Rattle.listing.proofs.Entries.{link-entries}
+use Rattle.listing.proofs.Entries.{joined-none, link-entries}
 use Rattle.first.specs.declared.First.{First}
 use Rattle.first.specs.Leads.{nothing, Leads}
 use Rattle.first.specs.Places.{number, place, entryOn, Candidate, none, direction, Nearest}
-use Rattle.first.proofs.Leading.{joined-empty, leads-as, leads-found, leads-end, leads-step}
+use Rattle.first.proofs.Leading.{leads-as, leads-found, leads-end, leads-step}
 
 -- what holds of the three steps on a direction, by kind
 link-each : (P : Step → Type 0) (kind i : ℕ) (b : Bool) → P (addChild i b) → P (acknowledge i b) → P (resolve i b) → P (linkStep kind i b)
@@ -113,8 +113,8 @@ module _ (t : Table) (s : State) (kind : ℕ) (few : t .links ≤ 126) where
 
     rows-empty : (n : ℕ) → n ≤ t .nodes → 65536 * n ≤ best → joined n (entriesAt t s kind) ≡ []
     rows-empty n within h =
-        joined-empty n (entriesAt t s kind)
-        (λ x g. row x (omega arith) ∙ joined-empty (t .nodes) (entry t s kind x) (λ y k. before-empty x y (omega arith)))
+        joined-none n (entriesAt t s kind)
+        (λ x g. row x (omega arith) ∙ joined-none (t .nodes) (entry t s kind x) (λ y k. before-empty x y (omega arith)))
 
     pub leads-no-direction : {r : First} → 4194304 ≤ best → r ≡ nothing → Leads t (entriesOf t s kind) r
     leads-no-direction h is =
@@ -128,7 +128,7 @@ module _ (t : Table) (s : State) (kind : ℕ) (few : t .links ≤ 126) where
         leads-found (t .nodes) x (entriesAt t s kind) (ends i b inside) (rows-empty x (omega (arith, ends i b inside)) (omega arith))
         (leads-as (sym (row x (ends i b inside)))
         (leads-found (t .nodes) y (entry t s kind x) (ends i (not b) inside)
-        (joined-empty y (entry t s kind x) (λ z h. before-empty x z (omega arith)))
+        (joined-none y (entry t s kind x) (λ z h. before-empty x z (omega arith)))
         here refl))
         refl
       where

@@ -48,14 +48,6 @@ joined-from (suc n) i f h e = go (λ below. joined-from n i f below e) (ℕ-disc
         let early = before (omega arith) in
         (early .0 ++ f n, rw (early .1) (append-assoc (f i) (early .0) (f n)))
 
--- lists that follow one another are empty where each is
-pub joined-empty : (n : ℕ) (f : ℕ → List ℕ) → ((i : ℕ) → i < n → f i ≡ []) → joined n f ≡ []
-unfolding joined
-joined-empty zero f h = refl
-joined-empty (suc n) f h =
-    let before = joined-empty n f (λ i b. h i (omega arith)) in
-    rw (before, h n (omega arith))
-
 pub joined-start : (f : ℕ → List ℕ) → joined 0 f ≡ []
 unfolding joined
 joined-start f = refl

@@ -12,7 +12,7 @@ use Rattle.paper.specs.State.{State}
 use Rattle.paper.specs.Steps.{Step, possible, effect}
 use Rattle.paper.specs.Image.{stateOf, imageOf, sound}
 use Rattle.paper.specs.Actions.{Reading, names, unread, ofNode, ofLink, nodeStep, linkStep, reading, readNode, readLink, linkBetween, directionFrom, refusedBy, stateAfter}
-use Rattle.paper.proofs.Tests.{or-cases, and-left, and-right}
+use Rattle.counting.proofs.Booleans.{or-cases, and-left, and-right}
 use Rattle.marks.specs.Lent.{Lent}
 use Rattle.image.specs.Taken.{stepOf, Named, Holds}
 use Rattle.image.proofs.Kept.{step-holds}

@@ -13,7 +13,7 @@ use Rattle.paper.specs.Steps.{Step, childrenKnown, addChild, acknowledge, resol
 use Rattle.paper.specs.Published.{Edge, Pre, queue, queues, actionOf}
 use Rattle.paper.specs.Meanings.{SoundMarks}
 use Rattle.paper.proofs.Published.{as-published}
-use Rattle.paper.proofs.Tests.{and-left, and-right, eqb-same}
+use Rattle.counting.proofs.Booleans.{and-left, and-right, eqb-same}
 use Rattle.paper.proofs.Changes.{at-away, at-elim}
 use Rattle.replay.specs.Promises.{Possible, SameButDirection, Effect}
 

@@ -16,7 +16,7 @@ use Rattle.paper.specs.Image.{stateOf, imageOf, imageLength, fits, sound}
 use Rattle.paper.specs.Actions.{Reading, names, reading, nodeStep, linkStep, directionFrom, refusedBy, stateAfter}
 use Rattle.paper.specs.Refusals.{tableRefusal}
 use Rattle.paper.specs.Calls.{freshImage, stepState, stepAnswer, stepImage, actionOf, Replayed, replayFrom, replayed, replayAnswer}
-use Rattle.paper.proofs.Tests.{and-both}
+use Rattle.counting.proofs.Booleans.{and-both}
 use Rattle.paper.proofs.Images.{sound-marks}
 use Rattle.paper.proofs.Kept.{possible-taken}
 use Rattle.paper.proofs.Changes.{possible-in-table}
