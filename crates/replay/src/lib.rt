@@ -6,7 +6,8 @@ ghost use lib.Dec.{ltb};
 ghost use lib.ListN.{length};
 ghost use Rattle.paper.specs.Upload.{byteAt, actionsOf, actionAt};
 ghost use Rattle.paper.specs.Table.{tableOf};
-ghost use Rattle.paper.specs.Image.{imageLength, fits, sound, stateOf};
+ghost use Rattle.paper.specs.State.{fresh};
+ghost use Rattle.paper.specs.Image.{imageLength, imageOf, fits, sound, stateOf};
 ghost use Rattle.paper.specs.Actions.{ofNode, ofLink};
 ghost use Rattle.paper.specs.Refusals.{tableRefusal};
 ghost use Rattle.paper.specs.Calls.{refusedWith, reported, reportAnswer, listOfImage, listAnswer, listBuffer, freshAnswer, freshImage, stepAnswer, stepImage, replayed, replayAnswer, runAnswer, runImage};
@@ -227,12 +228,11 @@ fn act_at(upload: &[u8], image: &mut [u8], i: usize) -> u8
     act(upload, image, upload[at], upload[at + 1], upload[at + 2])
 }
 
-// Makes a blank image fresh and takes the actions in turn, until one is refused or none is left.
+// Takes the actions in turn on a fresh image, until one is refused or none is left.
 fn replay_into(upload: &[u8], image: &mut [u8]) -> Stopped
-    requires { ⌜ Lent (now upload) (now image) × Blank (now image) ⌝ }
+    requires { ⌜ Lent (now upload) (now image) × (now image ≡ imageOf (tableOf (now upload)) (fresh (tableOf (now upload)))) ⌝ }
     ensures { λ r. ⌜ ReplayedTo (now (upload .entry)) r (now (image .exit)) ⌝ }
 {
-    image::wake(upload, image);
     let a = upload::actions(upload);
     let mut i: usize = 0;
     while i < a {
@@ -258,6 +258,7 @@ fn replay_on(upload: &[u8], image: &mut [u8]) -> paper::Answer
     requires { ⌜ Lent (now upload) (now image) × Blank (now image) ⌝ }
     ensures { λ r. ⌜ r ≡ reported (replayed (now (upload .entry)) .refusal) (replayed (now (upload .entry)) .steps) (tableOf (now (upload .entry))) (replayed (now (upload .entry)) .state) ⌝ }
 {
+    image::wake(upload, image);
     let stopped = replay_into(upload, image);
     let end = automaton::report_of(&*upload, &*image);
     paper::Answer {

@@ -1,11 +1,9 @@
 use borrow.Author.Needs.{needs}
 use native.Mathlib.Omega.{arith}
 use Prim.Native.Nat.{_≤_, _-_}
-use mathlib.Core.Path.{_≡_, subst, _∙_}
+use mathlib.Core.Path.{_≡_, subst}
 use denote.Ref.{now}
 use Rattle.paper.specs.Upload.{actionsOf}
-use Rattle.paper.specs.Table.{tableOf}
-use Rattle.image.proofs.Filled.{fresh-woken}
 use Rattle.replay.proofs.Replaying.{Halfway, begins, goes-on, stops, ends}
 use Rattle.replay.proofs.replay_into.Statement.{statement}
 use Rattle.replay.proofs.replay_into.Tie as tie
@@ -16,29 +14,24 @@ Inv-loop upload image₀ a i₀ image i = (i ≤ a) × (a ≡ actionsOf upload) 
 abbrev μ-loop : tie.MeasureT-loop
 μ-loop upload image₀ a i₀ image i = a - i
 
-wake-requires : tie.Need-wake-requires Inv-loop μ-loop
-wake-requires c κs = search needs
-
 actions-requires : tie.Need-actions-requires Inv-loop μ-loop
 actions-requires c κs = search needs
 
 loop-holds : tie.Need-loop-holds Inv-loop μ-loop
 loop-holds c =
-    let at = c .before .before .before .before .before .before .before in
-    let up = now (at .args .upload) in
-    let fresh = c .before .before .before .wake .ensures ∙ fresh-woken (tableOf up) (now (at .args .image)) (at .pre .0 .fits) (at .pre .1) in
-    (search needs, c .actions .ensures .0, begins up (now (at .args .image)) _ (at .pre .0) fresh)
+    let at = c .before .before .before in
+    (search needs, c .actions .ensures .0, begins (now (at .args .upload)) (now (at .args .image)) _ (at .pre .0) (at .pre .1))
 
 act-at-requires : tie.Need-act-at-requires Inv-loop μ-loop
 act-at-requires c κs =
     let inv = c .before .before .loop .inv in
     (inv .2 .lent, inv .2 .isSound, search needs)
 
-cast-t12 : tie.Need-cast-t12 Inv-loop μ-loop
-cast-t12 c = search needs
+cast-t9 : tie.Need-cast-t9 Inv-loop μ-loop
+cast-t9 c = search needs
 
-cast-t13 : tie.Need-cast-t13 Inv-loop μ-loop
-cast-t13 c = search needs
+cast-t10 : tie.Need-cast-t10 Inv-loop μ-loop
+cast-t10 c = search needs
 
 same-length : tie.Need-same-length Inv-loop μ-loop
 same-length c = search needs
@@ -47,7 +40,7 @@ returns : tie.Need-returns Inv-loop μ-loop
 returns c =
     let done = c .before .before .before in
     let loop = done .before .before .before in
-    let a = loop .before .before .before .before .before .before .before .before .args in
+    let a = loop .before .before .before .before .args in
     stops (now (a .upload)) (loop .loop .image) _ (loop .loop .i) _ (loop .loop .inv .2) (search needs) (done .act-at .ensures) (c .if1 .taken)
 
 add-i : tie.Need-add-i Inv-loop μ-loop
@@ -60,11 +53,11 @@ loop-again : tie.Need-loop-again Inv-loop μ-loop
 loop-again c =
     let done = c .before .before .before in
     let loop = done .before .before .before in
-    let a = loop .before .before .before .before .before .before .before .before .args in
+    let a = loop .before .before .before .before .args in
     (search needs, loop .loop .inv .1, goes-on (now (a .upload)) (loop .loop .image) _ (loop .loop .i) _ (loop .loop .inv .2) (search needs) (done .act-at .ensures) (c .if1 .left))
 
-cast-t14 : tie.Need-cast-t14 Inv-loop μ-loop
-cast-t14 c = search needs
+cast-t11 : tie.Need-cast-t11 Inv-loop μ-loop
+cast-t11 c = search needs
 
 same-length-2 : tie.Need-same-length-2 Inv-loop μ-loop
 same-length-2 c = search needs
@@ -72,7 +65,7 @@ same-length-2 c = search needs
 returns-2 : tie.Need-returns-2 Inv-loop μ-loop
 returns-2 c =
     let loop = c .before in
-    let a = loop .before .before .before .before .before .before .before .before .args in
+    let a = loop .before .before .before .before .args in
     let last : loop .loop .i ≡ loop .before .actions .result = omega arith in
     ends (now (a .upload)) (loop .loop .image) (loop .before .actions .result) (loop .loop .inv .1) (subst (Halfway (now (a .upload)) (loop .loop .image)) last (loop .loop .inv .2))
 
@@ -82,17 +75,16 @@ replay-into-spec =
     (tie.spec
     Inv-loop
     μ-loop
-    wake-requires
     actions-requires
     loop-holds
     act-at-requires
-    cast-t12
-    cast-t13
+    cast-t9
+    cast-t10
     same-length
     returns
     add-i
     loop-less
     loop-again
-    cast-t14
+    cast-t11
     same-length-2
     returns-2)
