@@ -85,7 +85,7 @@ module _ (t : Table) (s : State) where
         may = allowed step (found .1);
       }
 
--- what a caller of `try_action` learns where the number is 0
+-- what a caller learns where the number of an action tried is 0
 module _ {t : Table} {s : State} {r : Tried} (kind x y : ℕ) (tried : TriedAs t s (reading t kind x y) r) (taken : r .number ≡ 0) where
   pub acts-at-node : ofNode kind ≡ true → AtNode t s kind x y
   acts-at-node e = taken-node t s kind x y e (sym (tried .number) ∙ taken)
