@@ -3,10 +3,6 @@ use mathlib.Core.Path.{ap, ◌∙◌}
 use lib.Dec.{eqb}
 use Rattle.paper.specs.Upload.{byte_at}
 use Rattle.marks.proofs.Shown.{inside}
-use Rattle.marks.proofs.child.Reads as reads
-use Rattle.marks.proofs.child.Lts as lts
-use Rattle.marks.proofs.direction_at.Reads as direction-at-reads
-use Rattle.upload.proofs.byte.Reads as byte-Reads
 use Rattle.marks.proofs.child.Goals as goal
 
 -- src/lib.rt:44:1

@@ -2,9 +2,6 @@ use Prim.Native.Nat.{ℕ, ◌/◌, ◌%◌}
 use mathlib.Core.Path.{ap}
 use lib.Dec.{eqb}
 use Rattle.marks.proofs.Shown.{inside}
-use Rattle.marks.proofs.contending.Reads as reads
-use Rattle.marks.proofs.contending.Lts as lts
-use Rattle.upload.proofs.byte.Reads as byte-Reads
 use Rattle.marks.proofs.contending.Goals as goal
 
 -- src/lib.rt:20:1

@@ -1,8 +1,5 @@
 use native.Mathlib.Omega.{arith}
 use Rattle.counting.proofs.Bits.{bit_most}
-use Rattle.marks.proofs.direction_at.Reads as reads
-use Rattle.marks.proofs.direction_at.Lts as lts
-use Rattle.upload.proofs.nodes.Reads as nodes-reads
 use Rattle.marks.proofs.direction_at.Goals as goal
 
 -- src/lib.rt:40:5

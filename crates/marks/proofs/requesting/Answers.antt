@@ -4,10 +4,6 @@ use Rattle.paper.specs.Upload.{byte_at}
 use Rattle.paper.specs.Steps.{is_request}
 use Rattle.paper.specs.Image.{message_of}
 use Rattle.marks.proofs.Shown.{inside_message, request_at}
-use Rattle.marks.proofs.requesting.Reads as reads
-use Rattle.marks.proofs.requesting.Lts as lts
-use Rattle.marks.proofs.direction_at.Reads as direction-at-reads
-use Rattle.upload.proofs.byte.Reads as byte-Reads
 use Rattle.marks.proofs.requesting.Goals as goal
 
 -- src/lib.rt:60:1

@@ -2,9 +2,6 @@ use Prim.Native.Nat.{ℕ, ◌/◌, ◌%◌}
 use mathlib.Core.Path.{ap}
 use lib.Dec.{eqb}
 use Rattle.marks.proofs.Shown.{inside}
-use Rattle.marks.proofs.root.Reads as reads
-use Rattle.marks.proofs.root.Lts as lts
-use Rattle.upload.proofs.byte.Reads as byte-Reads
 use Rattle.marks.proofs.root.Goals as goal
 
 -- src/lib.rt:28:1

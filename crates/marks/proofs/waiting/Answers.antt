@@ -2,9 +2,6 @@ use Prim.Native.Nat.{ℕ, ◌%◌}
 use mathlib.Core.Path.{ap}
 use lib.Dec.{eqb}
 use Rattle.marks.proofs.Shown.{inside}
-use Rattle.marks.proofs.waiting.Reads as reads
-use Rattle.marks.proofs.waiting.Lts as lts
-use Rattle.upload.proofs.byte.Reads as byte-Reads
 use Rattle.marks.proofs.waiting.Goals as goal
 
 -- src/lib.rt:12:1

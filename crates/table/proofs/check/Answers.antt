@@ -4,7 +4,7 @@ use mathlib.Core.Path.{◌≡◌, sym, ◌∙◌}
 use native.Mathlib.Omega.{arith}
 use lib.Dec.{ltb}
 use lib.ListN.{length}
-use borrow.Author.Tests.{lt-ltb, le-ltb, ne_eqb, not-true, not-false}
+use borrow.Author.Tests.{lt-ltb, le-ltb, ne_eqb}
 use Rattle.paper.specs.Upload.{exact_length}
 use Rattle.table.specs.Checked.{HeaderPasses, checked}
 use Rattle.table.proofs.Tells.{tells_range}

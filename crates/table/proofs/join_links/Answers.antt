@@ -22,11 +22,10 @@ join_link-requires c =
     (search rules, λ b. rw c.loop-i.invariant.1.count (c.requires.1 c.loop-i.i (omega arith) b))
 
 pub loop-i-preserved : goal.loop-i-preserved
-loop-i-preserved c =
-    (
-      search rules,
-      labelled_more (table_of (lent (goal.at.loop-i-preserved c).At-loop-i)) _ _ _ (c.requires.1 c.loop-i.i (omega arith)) c.loop-i.invariant.1 c.join_link.ensures,
-    )
+loop-i-preserved c = (
+  search rules,
+  labelled_more (table_of (lent (goal.at.loop-i-preserved c).At-loop-i)) _ _ _ (c.requires.1 c.loop-i.i (omega arith)) c.loop-i.invariant.1 c.join_link.ensures,
+)
 
 pub shape_of-labels : goal.shape_of-labels
 shape_of-labels c =
