@@ -1,4 +1,6 @@
 // The printed lines as bytes, into a lent buffer: a byte past its end is not written, and the place goes on all the same.
+#![tactic(auto)]
+
 ghost use Rattle.std.specs.Prelude.{◌≡◌, ◌∷◌, [], length, take, ◌+◌, ◌-◌, ◌*◌, ◌<◌, ◌≤◌, ◌^◌, min};
 ghost use Rattle.paper.specs.Lines.{digits, decimal, space, line_of, lines_from, refused_line};
 ghost use Rattle.lines.specs.Wrote.{Wrote, Below, three};

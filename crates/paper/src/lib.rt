@@ -1,7 +1,9 @@
 // Document 01 as definitions, with the published automaton beside it and the replays P1 to P12: no code.
 
+#![tactic(auto)]
+
 // What every call answers: the six numbers of document 01, in its order.
-#[derive(Drop)]
+#[derive(Clone, Copy)]
 pub struct Answer {
     pub refusal: u8,
     pub place: u16,
