@@ -142,7 +142,7 @@ fn lines_width(answers: [paper::Answer; 64], count: usize) -> usize
 }
 
 // 13, and nothing written.
-fn room_is_short() -> paper::Answer
+fn no_room() -> paper::Answer
     ensures { result ≡ no_room }
 {
     paper::Answer {
@@ -187,7 +187,7 @@ pub fn write(answers: [paper::Answer; 64], count: usize, out: &mut [u8]) -> pape
     let most = shown(count);
     let needed = lines_width(answers, most);
     if out.len() < needed {
-        return room_is_short();
+        return no_room();
     }
     put_lines(out, answers, most);
     accepted(needed)
@@ -198,7 +198,7 @@ pub fn write_refused(out: &mut [u8]) -> paper::Answer
     ensures { Output refused_line out.old out.new result }
 {
     if out.len() < 10 {
-        return room_is_short();
+        return no_room();
     }
     out[0] = 114;
     out[1] = 101;

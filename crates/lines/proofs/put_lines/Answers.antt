@@ -1,4 +1,4 @@
-use Rattle.std.proofs.Common.{◌<◌, ◌≡◌, arith, length, refl}
+use Rattle.std.proofs.Common.{◌<◌, arith, length, refl}
 use Rattle.paper.specs.Lines.{lines_from}
 use Rattle.lines.proofs.Written.{then}
 use Rattle.lines.proofs.Ordered.{lines_next, unwritten}

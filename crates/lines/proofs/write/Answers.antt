@@ -7,7 +7,7 @@ use Rattle.lines.proofs.write.Goals as goal
 pub returns-then-out-needed : goal.returns-then-out-needed
 returns-then-out-needed c =
     let most = at_most c.args.count 64 c.args.answers c.shown-most.ensures.0 (omega arith) in
-    rw (← most, c.room_is_short.ensures)
+    rw (← most, c.no_room.ensures)
     (room_is_short (lines_from 0 (take c.shown-most.result c.args.answers)) c.args.out.now (omega (arith, c.lines_width-needed.ensures.0)))
 
 pub returns : goal.returns

@@ -4,7 +4,7 @@ use Rattle.lines.proofs.Room.{room_is_short, with_room}
 use Rattle.lines.proofs.write_refused.Goals as goal
 
 pub returns-then-out-lt10 : goal.returns-then-out-lt10
-returns-then-out-lt10 c = rw c.room_is_short.ensures (room_is_short refused_line c.args.out.now c.if-out-lt10.true)
+returns-then-out-lt10 c = rw c.no_room.ensures (room_is_short refused_line c.args.out.now c.if-out-lt10.true)
 
 pub returns : goal.returns
 returns c =
