@@ -1,4 +1,5 @@
 // The printed lines as bytes, into a lent buffer: a byte past its end is not written, and the place goes on all the same.
+
 #![tactic(auto)]
 
 ghost use Rattle.std.specs.Prelude.{◌≡◌, ◌∷◌, [], length, take, ◌+◌, ◌-◌, ◌*◌, ◌<◌, ◌≤◌, ◌^◌, min};
