@@ -1,3 +1,3 @@
-#![tactic(auto)]
-
 // Demand 1 and the table of refusals: what the calls answer and leave. Theorems only.
+
+#![tactic(auto)]
