@@ -1,1 +1,3 @@
 // What it is for a contract to allow no second answer, and to have one: definitions and laws, no code.
+
+#![tactic(auto)]

@@ -1,5 +1,5 @@
 -- Actions: three bytes, kind, x, y. Names of nodes become links here and nowhere else.
-use Rattle.std.specs.Prelude.{ℕ, suc, ◌+◌, Bool, true, false, not, cond, ◌&&◌, ◌||◌, List, [], ◌∷◌, ◌++◌, ltb, leb, eqb}
+use Rattle.std.specs.Prelude.{ℕ, suc, Bool, true, false, not, cond, ◌&&◌, ◌||◌, List, [], ◌∷◌, ◌++◌, ltb, leb, eqb}
 use Rattle.counting.specs.Count.{least, joined}
 use Rattle.paper.specs.Table.{Table}
 use Rattle.paper.specs.State.{State}

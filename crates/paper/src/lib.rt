@@ -1,5 +1,7 @@
 // Document 01 as definitions, with the published automaton beside it and the replays P1 to P12: no code.
 
+#![tactic(auto)]
+
 // What every call answers: the six numbers of document 01, in its order.
 #[derive(Drop)]
 pub struct Answer {

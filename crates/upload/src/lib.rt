@@ -1,4 +1,7 @@
 // The numbers of an upload, one accessor each.
+
+#![tactic(auto)]
+
 ghost use Rattle.std.specs.Prelude.{◌≡◌, ◌+◌, ◌*◌, ◌<◌, ◌≤◌, length};
 ghost use Rattle.paper.specs.Upload.{byte_at, nodes_of, links_of, actions_of, link_at};
 ghost use Rattle.paper.specs.Table.{table_of};
