@@ -1,4 +1,7 @@
 // The read side of the automaton on a lent image: which steps are possible, what an action names, and the report.
+
+#![tactic(auto)]
+
 ghost use Rattle.std.specs.Prelude.{◌≡◌, ◌+◌, ◌*◌, ◌<◌, ◌≤◌, cond, true, leb};
 ghost use Rattle.paper.specs.Upload.{nodes_of, links_of};
 ghost use Rattle.paper.specs.Table.{table_of};

@@ -11,7 +11,7 @@ use Rattle.counting.specs.Count.{joined}
 use Rattle.paper.specs.Table.{Table}
 use Rattle.paper.specs.State.{State}
 use Rattle.paper.specs.Steps.{possible}
-use Rattle.paper.specs.Actions.{names, reading, node_step, of_node, entry, entries_at}
+use Rattle.paper.specs.Actions.{names, reading, node_step, of_node, entries_at}
 use Rattle.automaton.specs.Tried.{link_read, end_read}
 use Rattle.automaton.proofs.Named.{node_link, node_end}
 use Rattle.listing.proofs.Entries.{node_entries}

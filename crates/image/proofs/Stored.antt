@@ -6,7 +6,7 @@ use mathlib.Core.List.{List}
 use native.Mathlib.Omega.{arith}
 use native.Mathlib.Decide.{ℕ_discrete}
 use lib.Dec.{eqb}
-use lib.ListN.{length, set, length-set}
+use lib.ListN.{length, length-set}
 use lib.Seq.{get_or-set_same, get_or-set_other}
 use borrow.Author.Tests.{eq-eqb, ne_eqb}
 use Rattle.counting.specs.Count.{bit}
@@ -14,7 +14,6 @@ use Rattle.counting.proofs.Bits.{bit_most}
 use Rattle.paper.specs.Upload.{byte_at}
 use Rattle.paper.specs.Table.{Table}
 use Rattle.paper.specs.State.{Message, State}
-use Rattle.paper.specs.Steps.{at}
 use Rattle.paper.specs.Image.{node_byte, message_number, direction_byte, image_of, direction_at}
 use Rattle.paper.proofs.Images.{length_image, image_node, image_direction, image_is}
 use Rattle.image.specs.Parts.{contending_at, root_at, child_at, message_at, stopped_byte, contending_byte, root_byte, child_byte, message_byte, changed}

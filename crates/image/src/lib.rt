@@ -1,4 +1,7 @@
 // The write side of the automaton on a lent image: whether an image is sound, the fresh image, and the five effects.
+
+#![tactic(auto)]
+
 ghost use Rattle.std.specs.Prelude.{◌≡◌, true, false, not, ◌&&◌, ◌+◌, ◌*◌, ◌<◌, ◌≤◌, length, ltb};
 ghost use Rattle.counting.specs.Count.{all};
 ghost use Rattle.paper.specs.Upload.{byte_at, nodes_of, links_of};

@@ -1,4 +1,7 @@
 // The printed lines as bytes, into a lent buffer: a byte past its end is not written, and the place goes on all the same.
+
+#![tactic(auto)]
+
 ghost use Rattle.std.specs.Prelude.{◌≡◌, ◌∷◌, [], length, take, ◌+◌, ◌-◌, ◌*◌, ◌<◌, ◌≤◌, ◌^◌, min};
 ghost use Rattle.paper.specs.Lines.{digits, decimal, space, line_of, lines_from, refused_line};
 ghost use Rattle.lines.specs.Wrote.{Wrote, Below, three};
@@ -140,7 +143,7 @@ fn lines_width(answers: [paper::Answer; 64], count: usize) -> usize
 }
 
 // 13, and nothing written.
-fn room_is_short() -> paper::Answer
+fn no_room() -> paper::Answer
     ensures { result ≡ no_room }
 {
     paper::Answer {
@@ -185,7 +188,7 @@ pub fn write(answers: [paper::Answer; 64], count: usize, out: &mut [u8]) -> pape
     let most = shown(count);
     let needed = lines_width(answers, most);
     if out.len() < needed {
-        return room_is_short();
+        return no_room();
     }
     put_lines(out, answers, most);
     accepted(needed)
@@ -196,7 +199,7 @@ pub fn write_refused(out: &mut [u8]) -> paper::Answer
     ensures { Output refused_line out.old out.new result }
 {
     if out.len() < 10 {
-        return room_is_short();
+        return no_room();
     }
     out[0] = 114;
     out[1] = 101;

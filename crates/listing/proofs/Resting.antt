@@ -1,17 +1,16 @@
 -- No step of kind 4 goes from a node that does not contend.
-use Prim.Native.Nat.{ℕ, suc, ◌<◌}
-use mathlib.Core.Bool.{Bool, true, false, not, cond, ◌&&◌, ◌||◌}
-use mathlib.Core.List.{List, [], ◌∷◌}
-use mathlib.Core.Path.{◌≡◌, refl, sym, ap, ◌∙◌}
+use Prim.Native.Nat.{ℕ}
+use mathlib.Core.Bool.{Bool, true, false, not, cond, ◌&&◌}
+use mathlib.Core.List.{[]}
+use mathlib.Core.Path.{◌≡◌, refl, ap, ◌∙◌}
 use mathlib.Core.Logic.{◌⊎◌, inl, inr}
 use native.Mathlib.Omega.{arith}
 use borrow.Author.Tests.{eqb-true, ne_eqb, not-true}
 use lib.Dec.{eqb, ltb}
-use Rattle.counting.specs.Count.{joined}
 use Rattle.counting.proofs.Booleans.{and_left, and_right, or_cases, clash}
 use Rattle.paper.specs.Table.{Table, source}
 use Rattle.paper.specs.State.{State}
-use Rattle.paper.specs.Steps.{Step, possible, resolve}
+use Rattle.paper.specs.Steps.{possible, resolve}
 use Rattle.paper.specs.Actions.{Reading, names, joins, direction_from, reading, refused_by, entry, entries_at}
 use Rattle.paper.proofs.Readings.{Read, at_node, for_link, not_read, read}
 use Rattle.listing.proofs.Entries.{joined_none}

@@ -1,4 +1,7 @@
 // The list of possible steps of a lent image.
+
+#![tactic(auto)]
+
 ghost use Rattle.std.specs.Prelude.{◌≡◌, ◌+◌, ◌*◌, ◌<◌, ◌≤◌, true, false, not, cond, ◌&&◌, eqb, [], ◌∷◌, length, set};
 ghost use Rattle.paper.specs.Upload.{nodes_of, links_of};
 ghost use Rattle.paper.specs.Table.{table_of};

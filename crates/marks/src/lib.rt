@@ -1,4 +1,7 @@
 // The marks and messages that a lent image shows, one accessor each.
+
+#![tactic(auto)]
+
 ghost use Rattle.std.specs.Prelude.{◌≡◌, ◌+◌, ◌*◌, ◌<◌, ◌≤◌, length};
 ghost use Rattle.paper.specs.Upload.{nodes_of, links_of};
 ghost use Rattle.paper.specs.Table.{table_of};

@@ -3,7 +3,7 @@
 #![tactic(auto)]
 
 // What every call answers: the six numbers of document 01, in its order.
-#[derive(Drop)]
+#[derive(Clone, Copy)]
 pub struct Answer {
     pub refusal: u8,
     pub place: u16,

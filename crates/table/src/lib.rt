@@ -1,4 +1,7 @@
 // The reader: checks 3 to 8 of an upload, and what an accepted table gives to its callers.
+
+#![tactic(auto)]
+
 ghost use Rattle.std.specs.Prelude.{◌≡◌, cond, ◌+◌, ◌<◌, ◌≤◌, length, get_or, eqb};
 ghost use Rattle.counting.specs.Count.{all};
 ghost use Rattle.paper.specs.Upload.{nodes_of, links_of, link_at};

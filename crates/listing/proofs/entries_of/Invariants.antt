@@ -1,0 +1,16 @@
+use Prim.Native.Nat.{◌+◌, ◌*◌, ◌-◌, ◌≤◌}
+use mathlib.Core.Path.{◌≡◌}
+use Rattle.counting.specs.Count.{joined}
+use Rattle.paper.specs.Table.{table_of}
+use Rattle.paper.specs.Actions.{entries_at}
+use Rattle.paper.specs.Upload.{nodes_of}
+use Rattle.automaton.specs.Tried.{shown}
+use Rattle.listing.specs.Wrote.{Wrote}
+use Rattle.listing.proofs.entries_of.Given as goal
+
+abbrev pub invariant-loop-x : goal.invariant-loop-x
+invariant-loop-x l =
+    (l.x ≤ l.n) × (l.n ≡ nodes_of l.upload) × Wrote l.initial.out l.count (joined l.x (entries_at (table_of l.upload) (shown l.upload l.image) l.kind)) l.out l.next × (l.next ≤ l.count + 63 * l.x)
+
+abbrev pub decreases-loop-x : goal.decreases-loop-x
+decreases-loop-x l = l.n - l.x
