@@ -1,7 +1,7 @@
 /* Answers a batch from standard input: prints its lines, and on standard error the answer of each refused entry.
  *
  * With the kit's compiler: examples/build answer_batch examples/answer_batch.c && .ci/start answer_batch <samples/whole.batch
- * With any other for x86-64: cc -I include examples/answer_batch.c target/staticlib/libreplay_c.a -o answer_batch
+ * With any other for x86-64: cc -I include examples/answer_batch.c crates/replay_c/out/libreplay_c.a -o answer_batch
  */
 #include <stdio.h>
 #include <replay.h>

@@ -1,4 +1,4 @@
-/* The replay of tree identify, for programs in C: the calls of libreplay_c.a, which `rt staticlib replay_c` writes.
+/* The replay of tree identify, for programs in C: the calls of libreplay_c.a, which `rt lib` in crates/replay_c writes.
  *
  * Every call answers six numbers in one word: refusal, place, steps, outcome, root, waiting. docs/C.md and docs/ANSWERS.md say what
  * they mean. Each call ends, keeps nothing between calls, allocates nothing, and may be made from several threads at once.

@@ -1,4 +1,8 @@
 // Answers recorded calls from standard input: for each the six numbers, and the bytes of the image and of the buffer afterwards.
+#![tactic(auto)]
+
+use std::io::{Print, Read};
+
 fn call(
     which: u8,
     kind: u8,
@@ -19,23 +23,35 @@ fn call(
 }
 
 // Makes one call and prints what it answers and leaves.
-fn respond(head: [u8; 4], upload: &[u8], image: &mut [u8], buffer: &mut [u8]) {
+fn respond(
+    out: &impl Print,
+    head: [u8; 4],
+    upload: &[u8],
+    image: &mut [u8],
+    buffer: &mut [u8],
+) {
     let answer = call(head[0], head[1], head[2], head[3], upload, image, buffer);
-    cases::print_answer(answer);
-    cases::print_space();
-    cases::print_bytes(image);
-    cases::print_space();
-    cases::print_bytes(buffer);
-    cases::print_newline();
+    cases::print_answer(out, answer);
+    cases::print_space(out);
+    cases::print_bytes(out, image);
+    cases::print_space(out);
+    cases::print_bytes(out, buffer);
+    cases::print_newline(out);
 }
 
 // Answers one call, and whether there was one.
-fn answer_one(upload: &mut [u8], image: &mut [u8], buffer: &mut [u8]) -> bool {
+fn answer_one(
+    input: &mut impl Read,
+    out: &impl Print,
+    upload: &mut [u8],
+    image: &mut [u8],
+    buffer: &mut [u8],
+) -> bool {
     let mut head = [0u8; 4];
-    let started = cases::filled(&mut head);
-    let u = cases::block(cases::two(), upload);
-    let i = cases::block(cases::two(), image);
-    let b = cases::block(cases::two(), buffer);
+    let started = cases::filled(input, &mut head);
+    let u = cases::block(cases::two(input), input, upload);
+    let i = cases::block(cases::two(input), input, image);
+    let b = cases::block(cases::two(input), input, buffer);
     if !(started & u.ok & i.ok & b.ok) {
         return false;
     }
@@ -43,6 +59,7 @@ fn answer_one(upload: &mut [u8], image: &mut [u8], buffer: &mut [u8]) -> bool {
     let bytes = i.n;
     let room = b.n;
     respond(
+        out,
         head,
         &upload[..size],
         &mut image[..bytes],
@@ -51,16 +68,28 @@ fn answer_one(upload: &mut [u8], image: &mut [u8], buffer: &mut [u8]) -> bool {
     true
 }
 
-fn answer_all(upload: &mut [u8], image: &mut [u8], buffer: &mut [u8]) {
+fn answer_all(
+    input: &mut impl Read,
+    out: &impl Print,
+    upload: &mut [u8],
+    image: &mut [u8],
+    buffer: &mut [u8],
+) {
     let mut turns = u64::MAX;
-    while turns > 0 && answer_one(upload, image, buffer) {
+    while turns > 0 && answer_one(input, out, upload, image, buffer) {
         turns -= 1;
     }
 }
 
-fn main() {
+fn main(rt: HostRuntime) {
     let mut upload = [0u8; 65535];
     let mut image = [0u8; 65535];
     let mut buffer = [0u8; 65535];
-    answer_all(&mut upload, &mut image, &mut buffer);
+    answer_all(
+        &mut rt.stdin(),
+        &rt.stdout(),
+        &mut upload,
+        &mut image,
+        &mut buffer,
+    );
 }

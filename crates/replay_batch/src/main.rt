@@ -1,5 +1,9 @@
 // Reads a batch from standard input and prints a line for each entry of it.
+#![tactic(auto)]
+
 ghost use Rattle.std.specs.Prelude.{◌+◌, ◌≤◌, length};
+
+use std::io::{Print, Read};
 
 // What reading came to: so many bytes until the input ended or the buffer was full, or a read that failed.
 #[derive(Drop)]
@@ -16,24 +20,27 @@ struct Part {
 }
 
 // One read into the bytes of the buffer from `done` on.
-fn read_part(buffer: &mut [u8], done: usize) -> Part
+fn read_part(input: &mut impl Read, buffer: &mut [u8], done: usize) -> Part
     requires { done ≤ length buffer.old }
     ensures { done + result.count ≤ length buffer.old }
 {
-    let rest = &mut buffer[done..];
-    let got = libc::read(libc::STDIN_FILENO, rest);
-    let count = io::count(got, rest);
-    Part {
-        failed: got < 0,
-        count: count,
+    match input.read(&mut buffer[done..]) {
+        Ok(count) => Part {
+            failed: false,
+            count: count,
+        },
+        Err(_) => Part {
+            failed: true,
+            count: 0,
+        },
     }
 }
 
 // Reads until the input ends, the buffer is full or a read fails.
-fn read_input(buffer: &mut [u8]) -> Input {
+fn read_input(input: &mut impl Read, buffer: &mut [u8]) -> Input {
     let mut done = 0;
     while done < buffer.len() {
-        let part = read_part(buffer, done);
+        let part = read_part(input, buffer, done);
         if part.failed {
             return Input::Failed;
         }
@@ -46,27 +53,28 @@ fn read_input(buffer: &mut [u8]) -> Input {
 }
 
 // Says on standard error what went wrong.
-fn complain(text: &[u8]) {
-    libc::write(libc::STDERR_FILENO, text);
+fn complain(err: &impl Print, text: &[u8]) {
+    let _ = err.write_some(text);
 }
 
 // One write of the bytes of the text from `done` to n, and how many it took.
-fn write_part(text: &[u8], done: usize, n: usize) -> usize
+fn write_part(out: &impl Print, text: &[u8], done: usize, n: usize) -> usize
     requires { (done ≤ n) × (n ≤ length text.now) }
     ensures { done + result ≤ n }
 {
-    let rest = &text[done..n];
-    let got = libc::write(libc::STDOUT_FILENO, rest);
-    io::count(got, rest)
+    match out.write_some(&text[done..n]) {
+        Ok(count) => count,
+        Err(_) => 0,
+    }
 }
 
 // Writes the first n bytes of the text to standard output, and answers whether all were taken.
-fn written(text: &[u8], n: usize) -> bool
+fn written(out: &impl Print, text: &[u8], n: usize) -> bool
     requires { n ≤ length text.now }
 {
     let mut done = 0;
     while done < n {
-        let more = write_part(text, done, n);
+        let more = write_part(out, text, done, n);
         if more == 0 {
             return false;
         }
@@ -76,34 +84,41 @@ fn written(text: &[u8], n: usize) -> bool
 }
 
 // Prints the first n bytes of the text.
-fn print(text: &[u8], n: usize) {
+fn print(out: &impl Print, err: &impl Print, text: &[u8], n: usize) {
     if text.len() < n {
-        complain(b"replay_batch: the text is longer than its buffer\n");
+        complain(err, b"replay_batch: the text is longer than its buffer\n");
         return;
     }
-    if !written(text, n) {
-        complain(b"replay_batch: writing failed, the answer is not complete\n");
+    if !written(out, text, n) {
+        complain(
+            err,
+            b"replay_batch: writing failed, the answer is not complete\n",
+        );
     }
 }
 
 // Prints the lines of a batch, the first n bytes of the buffer. At most 64 lines of 25 bytes come of it.
-fn answer(buffer: &[u8], n: usize) {
+fn answer(out: &impl Print, err: &impl Print, buffer: &[u8], n: usize) {
     let mut text = [0u8; 1600];
     if buffer.len() < n {
         return;
     }
     let done = batch::lines(&buffer[..n], &mut text);
     if done.refusal != 0 {
-        complain(b"replay_batch: the text has no room\n");
+        complain(err, b"replay_batch: the text has no room\n");
     }
-    print(&text, done.steps as usize);
+    print(out, err, &text, done.steps as usize);
 }
 
-fn main() {
+fn main(rt: HostRuntime) {
     let mut buffer = [0u8; 65537];
-    let input = read_input(&mut buffer);
+    let err = rt.stderr();
+    let input = read_input(&mut rt.stdin(), &mut buffer);
     match input {
-        Input::Failed => complain(b"replay_batch: reading failed, nothing is answered\n"),
-        Input::Bytes(n) => answer(&buffer, n),
+        Input::Failed => complain(
+            &err,
+            b"replay_batch: reading failed, nothing is answered\n",
+        ),
+        Input::Bytes(n) => answer(&rt.stdout(), &err, &buffer, n),
     }
 }
