@@ -1,4 +1,7 @@
 // The batch: its header, the span of each entry, and an entry's answer as the replay of its part.
+
+#![tactic(auto)]
+
 ghost use Rattle.std.specs.Prelude.{◌≡◌, false, ◌+◌, ◌*◌, ◌<◌, ◌≤◌, ◌^◌, length};
 ghost use Rattle.paper.specs.Upload.{two_at, four_at};
 ghost use Rattle.paper.specs.Batch.{count_of, offset_of, length_of, header_wrong, span_outside, part_of, entry_answer};

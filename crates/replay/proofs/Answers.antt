@@ -9,7 +9,7 @@ use Rattle.paper.specs.declared.Answer.{Answer}
 use Rattle.paper.specs.Table.{Table, table_of}
 use Rattle.paper.specs.State.{State, fresh}
 use Rattle.paper.specs.Image.{image_length, image_of, state_of, fits, sound}
-use Rattle.paper.specs.Refusals.{Refusal, accepted, refusal, table_refusal, image_refusal, length_refusal}
+use Rattle.paper.specs.Refusals.{Refusal, accepted, table_refusal, image_refusal, length_refusal}
 use Rattle.paper.specs.Calls.{refused_with, reported, answered, left, fresh_answer, fresh_image, report_answer}
 use Rattle.table.proofs.Laws.{accepted_laws}
 use Rattle.marks.specs.Lent.{Lent}

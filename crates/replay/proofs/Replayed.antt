@@ -1,5 +1,5 @@
 -- What a replay answers, case by case.
-use Prim.Native.Nat.{ℕ, zero, suc, ◌≤◌, ◌<◌}
+use Prim.Native.Nat.{ℕ, zero, suc, ◌≤◌}
 use native.Mathlib.Omega.{arith}
 use lib.ListN.{length, take, length-take, replicate, length-replicate, get_or-replicate}
 use lib.Seq.{get_or-take}

@@ -71,7 +71,7 @@ module _ (upload image : List ℕ) (h : (table_refusal upload).number ≡ 0) (g 
       let laws = accepted_laws upload h in
       let may = (possible_plainly t (state_of t image) (sound_marks t image (sound_here upload image g)) z).1 w.may in
       let own = read_step t laws.ends laws.no_self laws.no_repeat z (possible_in_table t (state_of t image) z may) in
-      record { named = (λ j. reading t (w.kind-is j) (w.first-is j) (w.second_is j)) ∙ own; may = may }
+      record { named = (λ j. reading t (w.kind_is j) (w.first_is j) (w.second_is j)) ∙ own; may = may }
 
   -- the image after it shows the state after it
   single_holds : Holds upload (step_image upload image kind x y) (step_state upload image kind x y)

@@ -1,4 +1,7 @@
 // The public calls: fresh, report, list, step, run and replay, each with every refusal and place in document 01's order.
+
+#![tactic(auto)]
+
 ghost use Rattle.std.specs.Prelude.{◌≡◌, true, false, ◌&&◌, ◌+◌, ◌*◌, ◌<◌, ◌≤◌, ltb, length};
 ghost use Rattle.paper.specs.Upload.{byte_at, actions_of, action_at};
 ghost use Rattle.paper.specs.Table.{table_of};

@@ -6,7 +6,6 @@ use Rattle.paper.specs.Image.{message_of}
 use Rattle.marks.proofs.Shown.{inside_message, carries_from}
 use Rattle.marks.proofs.carrying.Goals as goal
 
--- src/lib.rt:52:1
 pub returns : goal.returns
 returns c =
     inside_message carries c.args.i _ _ c.requires.1

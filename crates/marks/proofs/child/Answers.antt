@@ -5,7 +5,6 @@ use Rattle.paper.specs.Upload.{byte_at}
 use Rattle.marks.proofs.Shown.{inside}
 use Rattle.marks.proofs.child.Goals as goal
 
--- src/lib.rt:44:1
 pub returns : goal.returns
 returns c =
     inside c.args.i _ c.requires.1

@@ -6,7 +6,6 @@ use Rattle.paper.specs.Image.{message_of}
 use Rattle.marks.proofs.Shown.{inside_message, request_at}
 use Rattle.marks.proofs.requesting.Goals as goal
 
--- src/lib.rt:60:1
 pub returns : goal.returns
 returns c =
     inside_message is_request c.args.i _ _ c.requires.1
