@@ -12,7 +12,7 @@ use Rattle.paper.specs.declared.Answer.{Answer}
 use Rattle.paper.specs.Table.{Table, table_of}
 use Rattle.paper.specs.State.{State, fresh}
 use Rattle.paper.specs.Image.{image_length, image_of}
-use Rattle.paper.specs.Refusals.{Refusal, Tried, refusal}
+use Rattle.paper.specs.Refusals.{Refusal, Tried}
 use Rattle.paper.specs.Runner.{runner}
 use Rattle.paper.specs.Calls.{left, over, fresh_answer, fresh_image, fresh_refusal, report_answer, list_of_image, list_answer, list_buffer, list_refusal, step_answer, step_image, step_refusal, step_state, run_answer, run_image, replay_answer}
 use Rattle.paper.specs.Batch.{entry_answer}

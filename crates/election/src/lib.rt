@@ -1,1 +1,3 @@
 // Demand 3: what every run of every table comes to. Theorems only.
+
+#![tactic(auto)]

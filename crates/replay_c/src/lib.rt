@@ -1,4 +1,7 @@
 // The public calls for a program in C: each answers its six numbers in one word.
+
+#![tactic(auto)]
+
 ghost use Rattle.std.specs.Prelude.{◌≡◌};
 ghost use Rattle.paper.specs.Calls.{fresh_answer, fresh_image, report_answer, list_answer, list_buffer, step_answer, step_image, run_answer, run_image, replay_answer};
 ghost use Rattle.paper.specs.Batch.{entry_answer};

@@ -1,4 +1,7 @@
 // The lines about saved uploads as bytes, each into a lent buffer: its length, or 0 and nothing written where it has no room.
+
+#![tactic(auto)]
+
 ghost use Rattle.std.specs.Prelude.{◌≡◌, ◌++◌, length, take, drop, ◌+◌, ◌-◌, ◌<◌, ◌≤◌};
 ghost use Rattle.io.specs.Counts.{IsPrefixLen};
 ghost use Rattle.lines.specs.Wrote.{Wrote};

@@ -1,0 +1,7 @@
+use Rattle.saved.specs.Saved.{progress_line}
+use Rattle.saved.proofs.progress_line.Goals as goal
+
+pub returns : goal.returns
+unfolding progress_line
+returns c =
+    rw c.spelled-n.ensures.0 at c.joined.ensures
