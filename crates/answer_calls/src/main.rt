@@ -23,13 +23,7 @@ fn call(
 }
 
 // Makes one call and prints what it answers and leaves.
-fn respond(
-    out: &impl Print,
-    head: [u8; 4],
-    upload: &[u8],
-    image: &mut [u8],
-    buffer: &mut [u8],
-) {
+fn respond(out: &impl Print, head: [u8; 4], upload: &[u8], image: &mut [u8], buffer: &mut [u8]) {
     let answer = call(head[0], head[1], head[2], head[3], upload, image, buffer);
     cases::print_answer(out, answer);
     cases::print_space(out);

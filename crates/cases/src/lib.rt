@@ -1,5 +1,5 @@
 // Reads recorded cases from standard input and prints answers and bytes: what the comparison programs share.
-// The input is what a caller lends as it, and what is printed goes to the output that the caller lends; a write that fails is passed over.
+// A function takes the input or the output that it uses, in a program standard input or output. A write that fails is passed over.
 #![tactic(auto)]
 
 ghost use Rattle.std.specs.Prelude.{◌<◌, ◌≤◌, length};

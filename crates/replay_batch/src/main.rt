@@ -115,10 +115,7 @@ fn main(rt: HostRuntime) {
     let err = rt.stderr();
     let input = read_input(&mut rt.stdin(), &mut buffer);
     match input {
-        Input::Failed => complain(
-            &err,
-            b"replay_batch: reading failed, nothing is answered\n",
-        ),
+        Input::Failed => complain(&err, b"replay_batch: reading failed, nothing is answered\n"),
         Input::Bytes(n) => answer(&rt.stdout(), &err, &buffer, n),
     }
 }
