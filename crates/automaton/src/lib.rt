@@ -110,7 +110,7 @@ fn may_resolve(upload: &[u8], image: &[u8], i: usize, back: bool) -> bool
 }
 
 // What an action comes to: the number by which it is refused, 0 if it can be taken, and the direction that it names.
-#[derive(Drop)]
+#[derive(Clone, Copy)]
 pub struct Tried {
     pub number: u8,
     pub link: usize,
@@ -216,7 +216,7 @@ pub fn try_link(upload: &[u8], image: &[u8], kind: usize, x: usize, y: usize) ->
 }
 
 // What a state comes to: the outcome, the lowest root node or 255, and how many nodes wait.
-#[derive(Drop)]
+#[derive(Clone, Copy)]
 pub struct Report {
     pub outcome: u8,
     pub root: u8,

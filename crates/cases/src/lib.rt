@@ -7,7 +7,7 @@ ghost use Rattle.std.specs.Prelude.{◌<◌, ◌≤◌, length};
 use std::io::{Print, Read};
 
 // A length that was read, or that there is none.
-#[derive(Drop)]
+#[derive(Clone, Copy)]
 pub struct Size {
     pub ok: bool,
     pub n: usize,

@@ -4,7 +4,7 @@
 --     κs, a      the lifetimes and the arguments: any that are values of their types (GoodsP: a number is below 2 to the power of its bits) and meet the requires, so all where there is none
 -- There are a result z and last contents w, a place for each parameter in turn, that meet the ensures; z is a value of its type (Ok), and what is left in a lent slice is as long as what was lent (fits_of).
 -- With Determined they are the only ones. That the function returns them is its own proof.
--- The theorem of a function `f` is `f-answered : Answered f.Kinds.ps f.Kinds.r f.Reads.Pre f.Reads.Learnt`.
+-- The theorem of a function `f` is `f_answered : Answered f.Kinds.ps f.Kinds.r f.Reads.Pre f.Reads.Learnt`.
 use Rattle.std.specs.Prelude.{List, ℕ}
 use contract.Lifetimes.{Lfts}
 use denote.Triple.Clauses.{Lasts, at_exit}

@@ -5,7 +5,7 @@
 --     z, z'      two results
 --     w, w'      two tuples with a place for each parameter in turn: the content that it is left with where it is lent by `&mut`, and nothing where it is not
 -- Where both answers meet the ensures, the results are equal and every lent buffer is left with equal contents. That there is such an answer is what the function's own proof says.
--- The theorem of a function `f` is `f-determined : Determined f.Kinds.ps f.Kinds.r f.Reads.Pre f.Reads.Learnt`.
+-- The theorem of a function `f` is `f_determined : Determined f.Kinds.ps f.Kinds.r f.Reads.Pre f.Reads.Learnt`.
 use Rattle.std.specs.Prelude.{◌≡◌, List, ℕ}
 use contract.Lifetimes.{Lfts}
 use denote.Triple.Clauses.{Lasts, at_exit}

@@ -85,9 +85,9 @@ contending_log_is =
     }
 
 -- the log that is built of the run is P3, byte for byte
-contending_is_log : IsLogOf P12_table contending_run P3
+log_of_contending_is : IsLogOf P12_table contending_run P3
 unfolding sum all some labels one_piece links_refusal refusal possible effect taken
-contending_is_log = is_log P12_table refl contending_run refl
+log_of_contending_is = is_log P12_table refl contending_run refl
 
 pub examples_hold : Examples
 unfolding sum all some labels one_piece possible effect after taken resolved moving
@@ -100,5 +100,5 @@ examples_hold =
       between_loops = sticks (table_of two_loops) [] 0 7 0 (computed (table_of two_loops) [] refl refl refl refl refl) refl refl refl refl between_adds_up;
       two_links = sticks (table_of P10) [] 0 2 0 (computed (table_of P10) [] refl refl refl refl refl) refl refl refl refl links_adds_up;
       contending_log = contending_log_is;
-      log_of_contending = contending_is_log;
+      log_of_contending = log_of_contending_is;
     }

@@ -13,7 +13,7 @@ ghost use Rattle.first.specs.Leads.{nothing, first_of, Leads};
 ghost use Rattle.first.specs.Places.{number, place, entry_on, Nearest};
 
 // The first entry of the list, with the direction that it names; 0 and false where nothing is found.
-#[derive(Drop)]
+#[derive(Clone, Copy)]
 pub struct First {
     pub found: bool,
     pub kind: u8,

@@ -15,4 +15,4 @@ use Rattle.paper.specs.Examples.{Examples}
 
 pub examples_hold : Examples
 unfolding sum all some least list_of joined labels one_piece possible effect image_of sound moving reading listed run_from runner links_refusal refusal report_answer run_answer run_image replay_from replayed replay_behind header_wrong span_outside entry_answer answers_of digits line_of lines_from text_of
-examples_hold = record { odd_byte = refl; loop_moving = refl; between_loops = refl; behind_loop = refl; tail_image = refl; first_refused = refl }
+examples_hold = record { odd_byte = refl; loop_moving = refl; between_loops = refl; behind_loop = refl; tail_image = refl; refused_first_text = refl }

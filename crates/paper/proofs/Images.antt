@@ -12,7 +12,7 @@ use native.Mathlib.Omega.{arith}
 use native.Mathlib.Decide.{ℕ_discrete, dec_lt}
 use Rattle.counting.specs.Count.{bit, all, list_of, joined}
 use Rattle.counting.proofs.Bits.{bit_most}
-use Rattle.counting.proofs.Lists.{get_d_below, get_d_from, length_list_of, get_d_list_of}
+use Rattle.counting.proofs.Lists.{get_or_below, get_or_from, length_list_of, get_or_list_of}
 use Rattle.counting.proofs.Booleans.{and_left, and_right, and_both}
 use Rattle.counting.proofs.Tests.{all_true, all_holds}
 use Rattle.paper.specs.Upload.{byte_at}
@@ -32,16 +32,16 @@ unfolding joined pairs
 length_pairs zero f = refl
 length_pairs (suc n) f = let h = length_pairs n f in length-append (joined n (pairs f)) (pairs f n) ∙ omega arith
 
-get_d_pairs : (n : ℕ) (f : ℕ → Bool → ℕ) (i : ℕ) (b : Bool) → i < n → get_or (joined n (pairs f)) (2 * i + bit b) 0 ≡ f i b
+get_or_pairs : (n : ℕ) (f : ℕ → Bool → ℕ) (i : ℕ) (b : Bool) → i < n → get_or (joined n (pairs f)) (2 * i + bit b) 0 ≡ f i b
 unfolding joined pairs
-get_d_pairs zero f i b h = absurd (omega arith)
-get_d_pairs (suc n) f i b h = go (ℕ_discrete i n) b (get_d_pairs n f i b)
+get_or_pairs zero f i b h = absurd (omega arith)
+get_or_pairs (suc n) f i b h = go (ℕ_discrete i n) b (get_or_pairs n f i b)
   where
     go : Dec (i ≡ n) → (b : Bool) → (i < n → get_or (joined n (pairs f)) (2 * i + bit b) 0 ≡ f i b) → get_or (joined n (pairs f) ++ pairs f n) (2 * i + bit b) 0 ≡ f i b
-    go (yes q) false below = get_d_from (joined n (pairs f)) (pairs f n) 0 (2 * n) 0 _ (length_pairs n f) (omega arith) ∙ ap (λ k. f k false) (sym q)
-    go (yes q) true below = get_d_from (joined n (pairs f)) (pairs f n) 0 (2 * n) 1 _ (length_pairs n f) (omega arith) ∙ ap (λ k. f k true) (sym q)
-    go (no q) false below = get_d_below (joined n (pairs f)) (pairs f n) 0 (2 * n) _ (length_pairs n f) (omega arith) ∙ below (omega arith)
-    go (no q) true below = get_d_below (joined n (pairs f)) (pairs f n) 0 (2 * n) _ (length_pairs n f) (omega arith) ∙ below (omega arith)
+    go (yes q) false below = get_or_from (joined n (pairs f)) (pairs f n) 0 (2 * n) 0 _ (length_pairs n f) (omega arith) ∙ ap (λ k. f k false) (sym q)
+    go (yes q) true below = get_or_from (joined n (pairs f)) (pairs f n) 0 (2 * n) 1 _ (length_pairs n f) (omega arith) ∙ ap (λ k. f k true) (sym q)
+    go (no q) false below = get_or_below (joined n (pairs f)) (pairs f n) 0 (2 * n) _ (length_pairs n f) (omega arith) ∙ below (omega arith)
+    go (no q) true below = get_or_below (joined n (pairs f)) (pairs f n) 0 (2 * n) _ (length_pairs n f) (omega arith) ∙ below (omega arith)
 
 pub length_image : (t : Table) (s : State) → length (image_of t s) ≡ image_length t
 unfolding image_of pairs
@@ -53,14 +53,14 @@ length_image t s =
 pub image_node : (t : Table) (s : State) (x : ℕ) → x < t.nodes → byte_at (image_of t s) x ≡ node_byte s x
 unfolding image_of pairs
 image_node t s x h =
-    get_d_below (list_of t.nodes (node_byte s)) (joined t.links (pairs (direction_byte s))) 0 t.nodes x (length_list_of t.nodes (node_byte s)) h
-    ∙ get_d_list_of t.nodes (node_byte s) 0 x h
+    get_or_below (list_of t.nodes (node_byte s)) (joined t.links (pairs (direction_byte s))) 0 t.nodes x (length_list_of t.nodes (node_byte s)) h
+    ∙ get_or_list_of t.nodes (node_byte s) 0 x h
 
 pub image_direction : (t : Table) (s : State) (i : ℕ) (b : Bool) → i < t.links → byte_at (image_of t s) (direction_at t i b) ≡ direction_byte s i b
 unfolding image_of pairs
 image_direction t s i b h =
-    get_d_from (list_of t.nodes (node_byte s)) (joined t.links (pairs (direction_byte s))) 0 t.nodes (2 * i + bit b) (direction_at t i b) (length_list_of t.nodes (node_byte s)) (omega arith)
-    ∙ get_d_pairs t.links (direction_byte s) i b h
+    get_or_from (list_of t.nodes (node_byte s)) (joined t.links (pairs (direction_byte s))) 0 t.nodes (2 * i + bit b) (direction_at t i b) (length_list_of t.nodes (node_byte s)) (omega arith)
+    ∙ get_or_pairs t.links (direction_byte s) i b h
 
 -- a number as twice another and a bit
 halves : (k : ℕ) → (i : ℕ) × (b : Bool) × (k ≡ 2 * i + bit b)

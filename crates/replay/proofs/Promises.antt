@@ -55,8 +55,8 @@ beq_same : (b : Bool) → beq b b ≡ true
 beq_same true = refl
 beq_same false = refl
 
-at_each_direction : {A : Type 0} (f : ℕ → Bool → A) (i : ℕ) (b : Bool) (a : A) → at_direction f i b a i b ≡ a
-at_each_direction f i b a = rw (eqb_same i, beq_same b)
+at_one_direction : {A : Type 0} (f : ℕ → Bool → A) (i : ℕ) (b : Bool) (a : A) → at_direction f i b a i b ≡ a
+at_one_direction f i b a = rw (eqb_same i, beq_same b)
 
 off_direction : {A : Type 0} (f : ℕ → Bool → A) (i : ℕ) (b : Bool) (a : A) → SameButDirection i b f (at_direction f i b a)
 off_direction f i b a j c h = go (eqb j i) refl c b h
@@ -101,8 +101,8 @@ effect_plainly t s (children_known x) =
     }
 effect_plainly t s (add_child i b) =
     record {
-      gets = at_each_direction s.child i b true;
-      removed = at_each_direction s.message i b none;
+      gets = at_one_direction s.child i b true;
+      removed = at_one_direction s.message i b none;
       waiting = λ u. refl;
       contending = λ u. refl;
       root = λ u. refl;
@@ -113,7 +113,7 @@ effect_plainly t s (acknowledge i b) =
     record {
       asked = λ e. at_place s.contending (target t i b) (is_request (s.message i b)) ∙ ap is_request e;
       answered = λ h. at_place s.contending (target t i b) (is_request (s.message i b)) ∙ no_request (s.message i b) h;
-      removed = at_each_direction s.message i b none;
+      removed = at_one_direction s.message i b none;
       waiting = λ u. refl;
       contending = at_away s.contending (target t i b) (is_request (s.message i b));
       root = λ u. refl;
@@ -122,7 +122,7 @@ effect_plainly t s (acknowledge i b) =
     }
 effect_plainly t s (resolve i b) =
     record {
-      gets = at_each_direction s.child i b true;
+      gets = at_one_direction s.child i b true;
       first =
           at_elim (λ (v : Bool). v ≡ false) (at s.contending (source t i b) false) (target t i b) false (source t i b) (λ e. refl)
           (λ h. at_place s.contending (source t i b) false);

@@ -11,7 +11,7 @@ ghost use Rattle.table.specs.Labels.{Labelled, Rewritten, EndsWithin, EndsNamed,
 ghost use Rattle.table.specs.Checked.{checked, link_number, answered_at, piece_refusal, links_then_piece, HeaderPasses};
 
 // The answer of the reader.
-#[derive(Drop)]
+#[derive(Clone, Copy)]
 pub enum Checked {
     Accepted { n: usize, m: usize, a: usize },
     Refused { number: u8, place: u16 },
