@@ -9,7 +9,7 @@ ghost use Rattle.paper.specs.Steps.{unheard, possible, add_child, acknowledge, r
 ghost use Rattle.paper.specs.Actions.{link_between, node_step, link_step, read_node, read_link, names, direction_from};
 ghost use Rattle.counting.specs.Count.{some};
 ghost use Rattle.paper.specs.Report.{moves_at, moves_on, moving, roots, root_of, waiting_count, outcome_at_rest, outcome_of};
-ghost use Rattle.table.specs.Accepted.{Accepted};
+ghost use Rattle.cabling.specs.Accepted.{Accepted};
 ghost use Rattle.marks.specs.Lent.{Lent};
 ghost use Rattle.automaton.specs.Tried.{shown, touching, lacking, mark_allows, link_moves, TriedAs, Reported};
 

@@ -22,7 +22,7 @@ use Rattle.paper.specs.Calls.{refused_with, reported, has_state, answered, Repla
 use Rattle.paper.specs.Batch.{part_of, entry_answer}
 use Rattle.paper.specs.Lines.{text_of, lines_answer}
 use Rattle.counting.proofs.Booleans.{or_cases, or_right, and_left, and_right, and_both, clash}
-use Rattle.table.specs.Accepted.{Accepted}
+use Rattle.cabling.specs.Accepted.{Accepted}
 use Rattle.batch.proofs.Independent.{independent}
 use Rattle.demands.specs.ExactlyWhen
 use Rattle.demands.specs.ExactlyWhen.{TableRefused, TablePasses, Tries, Ready, BadImage, ActionRefused, ActionTaken, Ground, of_header, of_span, of_table, of_image, of_action, of_room, ReplayRefused, AllTaken, fresh_tries, report_tries, list_tries, step_tries, replay_tries, entry_tries}

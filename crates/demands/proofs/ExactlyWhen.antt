@@ -15,7 +15,7 @@ use Rattle.paper.specs.Refusals.{Refusal, accepted, given, image_refusal, length
 use Rattle.paper.specs.Calls.{fresh_answer, report_answer, list_of_image, list_answer, step_answer, run_answer, Replayed, replayed, replay_behind, action_refusal, trying}
 use Rattle.paper.specs.Batch.{header_wrong, span_outside, part_of, entry_answer}
 use Rattle.paper.specs.Lines.{text_of, lines_answer}
-use Rattle.table.specs.Accepted.{Accepted}
+use Rattle.cabling.specs.Accepted.{Accepted}
 use Rattle.table.proofs.Laws.{accepted_laws}
 use Rattle.table.proofs.Tells.{Tells, tells_lt, decided, holds, fails}
 use Rattle.demands.specs.ExactlyWhen.{TablePasses, BadImage, Ready, ActionRefused, ActionTaken, tries, no_action, StepRefused, StepTaken, ReplayRefused, AllTaken, NoRoom, fresh_tries, report_tries, list_tries, step_tries, replay_tries, entry_tries, LinesGround, written, no_room, Exactly, Given, ExactlyWhen}

@@ -12,7 +12,7 @@ use Rattle.paper.specs.Refusals.{accepted}
 use Rattle.paper.specs.Calls.{action_of, replay_from, replayed}
 use Rattle.paper.specs.Meanings.{SoundMarks}
 use Rattle.paper.proofs.Images.{sound_fresh, sound_kept}
-use Rattle.table.specs.Accepted.{Accepted}
+use Rattle.cabling.specs.Accepted.{Accepted}
 use Rattle.replay.proofs.Folds.{replay_stops, replay_goes_on}
 use Rattle.demands.specs.ExactlyWhen.{ActionRefused, ActionTaken, kind_at, first_at, second_at, Taken, at_first, and_then, ReplayRefused, AllTaken}
 use Rattle.demands.proofs.OneAction.{action_given, action_passes, action_leads, action_either, action_number}

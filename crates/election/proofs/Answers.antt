@@ -23,7 +23,7 @@ use Rattle.paper.specs.Batch.{header_wrong, span_outside, part_of, entry_answer}
 use Rattle.counting.proofs.Booleans.{clash}
 use Rattle.paper.proofs.Images.{sound_fresh}
 use Rattle.paper.proofs.Moving.{moving_still}
-use Rattle.table.specs.Accepted.{Accepted}
+use Rattle.cabling.specs.Accepted.{Accepted}
 use Rattle.table.proofs.Laws.{accepted_laws}
 use Rattle.election.specs.Demand.{reached_by, Ended, Demand, RunnerStops, RunnerEnds, RunAnswers, ReplayAnswers, EntryAnswers, Calls}
 use Rattle.election.proofs.Election.{few_roots, demand}

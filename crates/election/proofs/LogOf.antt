@@ -20,7 +20,7 @@ use Rattle.paper.specs.Meanings.{kind_of, first_of, second_of}
 use Rattle.counting.proofs.Booleans.{and_left, and_right}
 use Rattle.paper.proofs.Changes.{InTable, possible_in_table}
 use Rattle.paper.proofs.Readings.{read_step}
-use Rattle.table.specs.Accepted.{Accepted}
+use Rattle.cabling.specs.Accepted.{Accepted}
 use Rattle.table.specs.ExactlyWhen.{LinkPasses}
 use Rattle.table.proofs.ExactlyWhen.{exactly_when, passes_all}
 use Rattle.table.proofs.Laws.{accepted_laws}

@@ -6,7 +6,7 @@ ghost use Rattle.std.specs.Prelude.{◌≡◌, true, false, ◌+◌, ◌*◌, �
 ghost use Rattle.paper.specs.Upload.{nodes_of, links_of};
 ghost use Rattle.paper.specs.Table.{table_of};
 ghost use Rattle.paper.specs.Actions.{of_node, of_link, entries_at, entries_of, listed};
-ghost use Rattle.table.specs.Accepted.{Accepted};
+ghost use Rattle.cabling.specs.Accepted.{Accepted};
 ghost use Rattle.marks.specs.Lent.{Lent};
 ghost use Rattle.automaton.specs.Tried.{shown};
 ghost use Rattle.first.specs.Leads.{nothing, first_of, Leads};

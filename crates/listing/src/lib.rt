@@ -7,7 +7,7 @@ ghost use Rattle.paper.specs.Upload.{nodes_of, links_of};
 ghost use Rattle.paper.specs.Table.{table_of};
 ghost use Rattle.paper.specs.Actions.{link_between, of_node, of_link, entry, entries_at, entries_of, listed};
 ghost use Rattle.paper.specs.Calls.{over};
-ghost use Rattle.table.specs.Accepted.{Accepted};
+ghost use Rattle.cabling.specs.Accepted.{Accepted};
 ghost use Rattle.marks.specs.Lent.{Lent};
 ghost use Rattle.automaton.specs.Tried.{shown};
 ghost use Rattle.listing.specs.Wrote.{Wrote};

@@ -2,13 +2,12 @@
 use mathlib.Core.Path.{refl}
 use Rattle.determined.specs.Determined.{Determined}
 use Rattle.determined.proofs.Equations.{same}
-use Rattle.marks.proofs.waiting
-use Rattle.marks.proofs.contending
-use Rattle.marks.proofs.root
-use Rattle.marks.proofs.direction_at
-use Rattle.marks.proofs.child
-use Rattle.marks.proofs.carrying
-use Rattle.marks.proofs.requesting
+use Rattle.marks.proofs.View.waiting
+use Rattle.marks.proofs.View.contending
+use Rattle.marks.proofs.View.root
+use Rattle.marks.proofs.View.child
+use Rattle.marks.proofs.View.carrying
+use Rattle.marks.proofs.View.requesting
 
 pub waiting_determined : Determined waiting.Kinds.ps waiting.Kinds.r waiting.Reads.Pre waiting.Reads.Learnt
 waiting_determined κs a pre z z' w w' p q = (same p q, refl)
@@ -18,9 +17,6 @@ contending_determined κs a pre z z' w w' p q = (same p q, refl)
 
 pub root_determined : Determined root.Kinds.ps root.Kinds.r root.Reads.Pre root.Reads.Learnt
 root_determined κs a pre z z' w w' p q = (same p q, refl)
-
-pub direction_at_determined : Determined direction_at.Kinds.ps direction_at.Kinds.r direction_at.Reads.Pre direction_at.Reads.Learnt
-direction_at_determined κs a pre z z' w w' p q = (same p.0 q.0, refl)
 
 pub child_determined : Determined child.Kinds.ps child.Kinds.r child.Reads.Pre child.Reads.Learnt
 child_determined κs a pre z z' w w' p q = (same p q, refl)

@@ -2,7 +2,7 @@
 use Rattle.std.specs.Prelude.{◌≡◌, List, ℕ, length}
 use Rattle.paper.specs.Table.{table_of}
 use Rattle.paper.specs.Image.{image_length}
-use Rattle.table.specs.Accepted.{Accepted}
+use Rattle.cabling.specs.Accepted.{Accepted}
 
 pub record Lent (upload image : List ℕ) : Type 0 where
   pub table : Accepted upload

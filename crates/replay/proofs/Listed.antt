@@ -10,7 +10,7 @@ use Rattle.paper.specs.Table.{table_of}
 use Rattle.paper.specs.Image.{state_of, fits, sound}
 use Rattle.paper.specs.Refusals.{Refusal, accepted, given, first, table_refusal, image_refusal, room_refusal}
 use Rattle.paper.specs.Calls.{refused_with, reported, answered, left, over, list_of_image, list_refusal, list_answer, list_buffer}
-use Rattle.table.specs.Accepted.{Accepted}
+use Rattle.cabling.specs.Accepted.{Accepted}
 use Rattle.listing.proofs.ListLength.{listed_most}
 use Rattle.replay.proofs.Order.{answered_table, left_table, answered_image, left_image, refusal_behind, twelve}
 

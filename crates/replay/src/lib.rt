@@ -16,7 +16,7 @@ ghost use Rattle.image.specs.Parts.{Blank};
 ghost use Rattle.replay.specs.Taken.{Taken};
 ghost use Rattle.replay.specs.Replaying.{ReplayedTo};
 ghost use Rattle.replay.specs.Running.{Advanced, RanTo};
-ghost use Rattle.table.specs.Accepted.{Accepted};
+ghost use Rattle.cabling.specs.Accepted.{Accepted};
 
 // A refusal that is not of an action.
 fn refused(number: u8, place: u16) -> paper::Answer

@@ -9,7 +9,7 @@ use Rattle.paper.specs.Table.{Table, table_of}
 use Rattle.paper.specs.Refusals.{table_refusal}
 use Rattle.paper.specs.Meanings.{NoRepeat}
 use Rattle.paper.proofs.OnePiece.{one_piece_cut}
-use Rattle.table.specs.Accepted.{Accepted}
+use Rattle.cabling.specs.Accepted.{Accepted}
 use Rattle.table.specs.ExactlyWhen.{LinksPass}
 use Rattle.table.proofs.OneLink.{passed_ends}
 use Rattle.table.proofs.ExactlyWhen.{passes_all}

@@ -1,4 +1,3 @@
-pub mod Accepted
 pub mod Checked
 pub mod Labels
 pub mod ExactlyWhen

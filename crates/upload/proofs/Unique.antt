@@ -3,14 +3,19 @@ use mathlib.Core.Path.{refl}
 use Rattle.determined.specs.Determined.{Determined}
 use Rattle.determined.proofs.Equations.{same}
 use Rattle.upload.proofs.byte
-use Rattle.upload.proofs.nodes
-use Rattle.upload.proofs.links
-use Rattle.upload.proofs.actions
-use Rattle.upload.proofs.end
-use Rattle.upload.proofs.joins
+use Rattle.upload.proofs.Direction.reverse
+use Rattle.upload.proofs.Upload.nodes
+use Rattle.upload.proofs.Upload.links
+use Rattle.upload.proofs.Upload.actions
+use Rattle.upload.proofs.Upload.end
+use Rattle.upload.proofs.Upload.joins
+use Rattle.upload.proofs.Upload.direction_at
 
 pub byte_determined : Determined byte.Kinds.ps byte.Kinds.r byte.Reads.Pre byte.Reads.Learnt
 byte_determined κs a pre z z' w w' p q = (same p.0 q.0, refl)
+
+pub reverse_determined : Determined reverse.Kinds.ps reverse.Kinds.r reverse.Reads.Pre reverse.Reads.Learnt
+reverse_determined κs a pre z z' w w' p q = (same p q, refl)
 
 pub nodes_determined : Determined nodes.Kinds.ps nodes.Kinds.r nodes.Reads.Pre nodes.Reads.Learnt
 nodes_determined κs a pre z z' w w' p q = (same p.0 q.0, refl)
@@ -26,3 +31,6 @@ end_determined κs a pre z z' w w' p q = (same p.0 q.0, refl)
 
 pub joins_determined : Determined joins.Kinds.ps joins.Kinds.r joins.Reads.Pre joins.Reads.Learnt
 joins_determined κs a pre z z' w w' p q = (same p q, refl)
+
+pub direction_at_determined : Determined direction_at.Kinds.ps direction_at.Kinds.r direction_at.Reads.Pre direction_at.Reads.Learnt
+direction_at_determined κs a pre z z' w w' p q = (same p.0 q.0, refl)

@@ -1,57 +1,93 @@
-// The numbers of an upload, one accessor each.
+// The numbers of an upload, the directions of its links, and the steps that its actions name.
 
 #![tactic(auto)]
 
-ghost use Rattle.std.specs.Prelude.{◌≡◌, ◌+◌, ◌*◌, ◌<◌, ◌≤◌, length};
+ghost use Rattle.std.specs.Prelude.{◌≡◌, ◌+◌, ◌*◌, ◌<◌, ◌≤◌, not, length};
 ghost use Rattle.paper.specs.Upload.{byte_at, nodes_of, links_of, actions_of, link_at};
 ghost use Rattle.paper.specs.Table.{table_of};
 ghost use Rattle.paper.specs.Actions.{joins};
+ghost use Rattle.paper.specs.Image.{direction_at};
+
+pub mod step;
 
 // The byte at a place.
 pub fn byte(s: &[u8], i: usize) -> usize
     requires { i < length s.now }
     ensures { (result ≡ byte_at s.now i) × (result < 256) }
 {
-    s[i] as usize
+    usize::from(s[i])
 }
 
-// n, the number of nodes.
-pub fn nodes(upload: &[u8]) -> usize
-    requires { 4 ≤ length upload.now }
-    ensures { (result ≡ nodes_of upload.now) × (result < 256) }
-{
-    byte(upload, 0)
+// A direction of a link: from its first node to its second, or back.
+#[derive(Clone, Copy, PartialEq, Eq)]
+pub struct Direction {
+    pub link: usize,
+    pub back: bool,
 }
 
-// m, the number of links.
-pub fn links(upload: &[u8]) -> usize
-    requires { 4 ≤ length upload.now }
-    ensures { (result ≡ links_of upload.now) × (result < 256) }
-{
-    byte(upload, 1)
+impl Direction {
+    // The same link the other way.
+    pub fn reverse(self) -> Direction
+        ensures { result ≡ record { link = self.link; back = not self.back } }
+    {
+        Direction {
+            link: self.link,
+            back: !self.back,
+        }
+    }
 }
 
-// a, the number of actions.
-pub fn actions(upload: &[u8]) -> usize
-    requires { 4 ≤ length upload.now }
-    ensures { (result ≡ actions_of upload.now) × (result < 65536) }
-{
-    256 * byte(upload, 2) + byte(upload, 3)
+// An upload with its four bytes of header.
+#[derive(Clone, Copy)]
+pub struct Upload<'a> {
+    pub bytes: &'a [u8],
+    ghost header: { 4 ≤ length bytes.now },
 }
 
-// A node of link i: its first, or its second.
-pub fn end(upload: &[u8], i: usize, second: bool) -> usize
-    requires { link_at i + 2 ≤ length upload.now }
-    ensures { (result ≡ (table_of upload.now).end i second) × (result < 256) }
-{
-    byte(upload, 4 + 2 * i + second as usize)
-}
+impl Upload<'_> {
+    // n, the number of nodes.
+    pub fn nodes(&self) -> usize
+        ensures { (result ≡ nodes_of self.now.bytes.now) × (result < 256) }
+    {
+        byte(self.bytes, 0)
+    }
 
-// Link i joins x and y, either way round: its two bytes as one number are theirs.
-pub fn joins(upload: &[u8], x: usize, y: usize, i: usize) -> bool
-    requires { (link_at i + 2 ≤ length upload.now) × (x < 256) × (y < 256) }
-    ensures { result ≡ joins (table_of upload.now) x y i }
-{
-    let pair = end(upload, i, false) + 256 * end(upload, i, true);
-    (pair == x + 256 * y) | (pair == y + 256 * x)
+    // m, the number of links.
+    pub fn links(&self) -> usize
+        ensures { (result ≡ links_of self.now.bytes.now) × (result < 256) }
+    {
+        byte(self.bytes, 1)
+    }
+
+    // a, the number of actions.
+    pub fn actions(&self) -> usize
+        ensures { (result ≡ actions_of self.now.bytes.now) × (result < 65536) }
+    {
+        256 * byte(self.bytes, 2) + byte(self.bytes, 3)
+    }
+
+    // A node of link i: its first, or its second.
+    pub fn end(&self, i: usize, second: bool) -> usize
+        requires { link_at i + 2 ≤ length self.now.bytes.now }
+        ensures { (result ≡ (table_of self.now.bytes.now).end i second) × (result < 256) }
+    {
+        byte(self.bytes, 4 + 2 * i + usize::from(second))
+    }
+
+    // Link i joins x and y, either way round: its two bytes as one number are theirs.
+    pub fn joins(&self, x: usize, y: usize, i: usize) -> bool
+        requires { (link_at i + 2 ≤ length self.now.bytes.now) × (x < 256) × (y < 256) }
+        ensures { result ≡ joins (table_of self.now.bytes.now) x y i }
+    {
+        let pair = self.end(i, false) + 256 * self.end(i, true);
+        (pair == x + 256 * y) | (pair == y + 256 * x)
+    }
+
+    // Where the byte of a direction stands in an image.
+    pub fn direction_at(&self, d: Direction) -> usize
+        requires { d.link < 256 }
+        ensures { (result ≡ direction_at (table_of self.now.bytes.now) d.link d.back) × (result ≤ nodes_of self.now.bytes.now + 2 * d.link + 1) }
+    {
+        self.nodes() + 2 * d.link + usize::from(d.back)
+    }
 }
