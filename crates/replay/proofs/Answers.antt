@@ -29,14 +29,6 @@ told number place steps r j =
       waiting = r.waiting j;
     }
 
--- the table's answer tells whether the table is accepted
-module _ (upload : List ℕ) {r : Answer} (e : r ≡ refused_with (table_refusal upload)) where
-  pub table_good : r.refusal ≡ 0 → (table_refusal upload).number ≡ 0
-  table_good h = sym (ap (λ (a : Answer). a.refusal) e) ∙ h
-
-  pub table_bad : (r.refusal ≡ 0 → ⊥) → (table_refusal upload).number ≡ 0 → ⊥
-  table_bad h q = h (ap (λ (a : Answer). a.refusal) e ∙ q)
-
 both_true : (a b : Bool) → (a && b) ≡ true → (a ≡ true) × (b ≡ true)
 both_true true b h = (refl, h)
 both_true false b h = (h, absurd (false≢true h))

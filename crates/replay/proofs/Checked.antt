@@ -1,35 +1,27 @@
 -- What the reader's answer says of the table's refusal.
-use Prim.Native.Nat.{ℕ}
-use mathlib.Core.Bool.{Bool, true, false}
-use mathlib.Core.Path.{◌≡◌, refl}
-use mathlib.Core.List.{List}
-use native.Mathlib.Omega.{arith}
-use borrow.Author.Tests.{eqb-true}
-use lib.Dec.{eqb}
-use Rattle.paper.specs.Upload.{nodes_of, links_of, actions_of}
-use Rattle.paper.specs.Refusals.{accepted, table_refusal}
-use Rattle.table.specs.declared.Checked.TheVariants.{Accepted, Refused}
-use Rattle.table.specs.Checked.{pick, checked}
-use Rattle.replay.proofs.Order.{table_accepted}
+use Rattle.std.proofs.Common.{ℕ, List, ◌≡◌, refl, sym, ap, ◌∙◌, arith}
+use Rattle.std.specs.Prelude.{Result, Ok, Err}
+use Rattle.paper.specs.Refusals as paper
+use Rattle.paper.specs.Refusals.{table_refusal}
+use Rattle.table.specs.declared.refusal.Refusal.{Refusal}
+use Rattle.table.specs.declared.refusal.Refusal.TheVariants.{Length, Range, NamesNoNode, JoinsItself, Repeats, Pieces}
+use Rattle.table.specs.Told.{number, meant, told}
 
-pub nothing_refused : (upload : List ℕ) → (table_refusal upload).number ≡ 0 → table_refusal upload ≡ accepted
-nothing_refused upload h = table_accepted upload accepted accepted accepted h
+-- no ground of the reader has number 0
+number_some : (r : Refusal) → number r ≡ 0 → ⊥
+number_some Length e = omega arith
+number_some Range e = omega arith
+number_some (NamesNoNode i) e = omega arith
+number_some (JoinsItself i) e = omega arith
+number_some (Repeats i) e = omega arith
+number_some Pieces e = omega arith
 
-pub from_accepted : (upload : List ℕ) (n m a : ℕ) → checked upload ≡ Accepted n m a → table_refusal upload ≡ accepted
-unfolding checked
-from_accepted upload n m a e = go (eqb (table_refusal upload).number 0) refl e
-  where
-    go : (b : Bool) → eqb (table_refusal upload).number 0 ≡ b → pick b (Accepted (nodes_of upload) (links_of upload) (actions_of upload)) (Refused (table_refusal upload).number (table_refusal upload).place) ≡ Accepted n m a → table_refusal upload ≡ accepted
-    go true h q = nothing_refused upload (eqb-true (table_refusal upload).number 0 h)
-    go false h q = let z : ◌≡◌ {A = ℕ} 0 1 = cc in absurd (omega arith)
+module _ {X : Type 0} (upload : List ℕ) {r : Result X Refusal} (e : told r ≡ table_refusal upload) where
+  pub table_good : (x : X) → r ≡ Ok x → (table_refusal upload).number ≡ 0
+  table_good x h = ap (λ (w : paper.Refusal). w.number) (sym e ∙ ap told h)
 
-pub from_refused : (upload : List ℕ) (number place : ℕ) → checked upload ≡ Refused number place → table_refusal upload ≡ record { number = number; place = place }
-unfolding checked
-from_refused upload number place e = go (eqb (table_refusal upload).number 0) refl e
-  where
-    go : (b : Bool) → eqb (table_refusal upload).number 0 ≡ b → pick b (Accepted (nodes_of upload) (links_of upload) (actions_of upload)) (Refused (table_refusal upload).number (table_refusal upload).place) ≡ Refused number place → table_refusal upload ≡ record { number = number; place = place }
-    go true h q = let z : ◌≡◌ {A = ℕ} 0 1 = cc in absurd (omega arith)
-    go false h q =
-        let k : (table_refusal upload).number ≡ number = cc in
-        let p : (table_refusal upload).place ≡ place = cc in
-        λ j. record { number = k j; place = p j }
+  pub table_is : (w : Refusal) → r ≡ Err w → table_refusal upload ≡ meant w
+  table_is w h = sym e ∙ ap told h
+
+  pub table_bad : (w : Refusal) → r ≡ Err w → (table_refusal upload).number ≡ 0 → ⊥
+  table_bad w h z = number_some w (sym (ap (λ (v : paper.Refusal). v.number) (table_is w h)) ∙ z)

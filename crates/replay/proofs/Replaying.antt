@@ -19,6 +19,10 @@ use Rattle.image.proofs.Kept.{fresh_holds}
 use Rattle.replay.specs.Taken.{Taken}
 use Rattle.replay.specs.Replaying.{came_to, ReplayedTo}
 use Rattle.replay.specs.declared.Stopped.{Stopped}
+use Rattle.automaton.specs.declared.Refused.{Refused}
+use Rattle.automaton.specs.declared.Refused.TheVariants.{Unread, NoLink, Impossible}
+use Rattle.automaton.specs.Tried.{refused_number}
+use Rattle.std.specs.Prelude.{Result, Ok, Err}
 use Rattle.replay.proofs.Acted.{next_taken, next_refused}
 use Rattle.replay.proofs.Folds.{replay_stops, replay_goes_on}
 
@@ -33,7 +37,7 @@ pub same_image : (upload image : List ℕ) → Lent upload image → sound (tabl
 same_image upload image lent good =
     sym (image_of_state (table_of upload) image (eq-eqb (length image) (image_length (table_of upload)) lent.fits) good)
 
-comes_to : (upload image : List ℕ) (r : Stopped) → Lent upload image → sound (table_of upload) image ≡ true → replayed upload ≡ came_to r upload image → ReplayedTo upload r image
+comes_to : (upload image : List ℕ) (r : Result ℕ Stopped) → Lent upload image → sound (table_of upload) image ≡ true → replayed upload ≡ came_to r upload image → ReplayedTo upload r image
 comes_to upload image r lent good e =
     let state : state_of (table_of upload) image ≡ (replayed upload).state = sym (ap (λ (w : Replayed). w.state) e) in
     record {
@@ -53,11 +57,17 @@ begins upload image l lent e =
       left = (λ j. replay_from upload (sym h.shows j) 0 (sym all j));
     }
 
-pub ends : (upload image : List ℕ) (a : ℕ) → a ≡ actions_of upload → Halfway upload image a → ReplayedTo upload (record { number = 0; place = 0; steps = a }) image
+pub ends : (upload image : List ℕ) (a : ℕ) → a ≡ actions_of upload → Halfway upload image a → ReplayedTo upload (Ok a) image
 unfolding replay_from
 ends upload image a e h =
     let none : actions_of upload - a ≡ 0 = omega arith in
-    comes_to upload image (record { number = 0; place = 0; steps = a }) h.lent h.is_sound (h.left ∙ ap (replay_from upload (state_of (table_of upload) image) a) none)
+    comes_to upload image (Ok a) h.lent h.is_sound (h.left ∙ ap (replay_from upload (state_of (table_of upload) image) a) none)
+
+-- no refusal has number 0
+pub refused_some : (r : Refused) → refused_number r ≡ 0 → ⊥
+refused_some Unread e = omega arith
+refused_some NoLink e = omega arith
+refused_some (Impossible x) e = omega arith
 
 module _ (upload image after : List ℕ) (i number : ℕ) (h : Halfway upload image i) (below : i < actions_of upload) (w : Taken upload image (byte_at upload (action_at upload i)) (byte_at upload (action_at upload i + 1)) (byte_at upload (action_at upload i + 2)) number after) where
   one_more : replayed upload ≡ replay_from upload (state_of (table_of upload) image) i (suc (actions_of upload - suc i))
@@ -76,12 +86,13 @@ module _ (upload image after : List ℕ) (i number : ℕ) (h : Halfway upload im
         left = rw (add-one i) (one_more ∙ replay_goes_on upload s i (actions_of upload - suc i) can ∙ ap (λ (z : State). replay_from upload z (suc i) (actions_of upload - suc i)) next);
       }
 
-  pub stops : (number ≡ 0 → ⊥) → ReplayedTo upload (record { number = number; place = i; steps = i }) after
-  stops e =
+module _ (upload image after : List ℕ) (i : ℕ) (r : Refused) (h : Halfway upload image i) (below : i < actions_of upload) (w : Taken upload image (byte_at upload (action_at upload i)) (byte_at upload (action_at upload i + 1)) (byte_at upload (action_at upload i + 2)) (refused_number r) after) where
+  pub stops : ReplayedTo upload (Err (record { refused = r; place = i })) after
+  stops =
       let s = state_of (table_of upload) image in
-      let cannot : refused_by (table_of upload) s (action_of upload i) ≡ 0 → ⊥ = λ q. e (w.refused ∙ q) in
+      let cannot : refused_by (table_of upload) s (action_of upload i) ≡ 0 → ⊥ = λ q. refused_some r (w.refused ∙ q) in
       let same : s ≡ state_of (table_of upload) after = sym (w.holds.shows ∙ next_refused upload s _ _ _ cannot) in
-      comes_to upload after (record { number = number; place = i; steps = i }) w.holds.lent w.holds.is_sound
-      (one_more
+      comes_to upload after (Err (record { refused = r; place = i })) w.holds.lent w.holds.is_sound
+      (one_more upload image after i (refused_number r) h below w
       ∙ replay_stops upload s i (actions_of upload - suc i) cannot
       ∙ (λ j. record { refusal = record { number = sym w.refused j; place = i }; steps = i; state = same j }))

@@ -2,344 +2,327 @@
 
 #![tactic(auto)]
 
-ghost use Rattle.std.specs.Prelude.{◌≡◌, true, false, ◌&&◌, ◌+◌, ◌*◌, ◌<◌, ◌≤◌, ltb, length};
+mod refusal;
+
+ghost use Rattle.std.specs.Prelude.{◌≡◌, true, is_ok, IfOk, OnErr, IfErr, ◌&&◌, ◌+◌, ◌*◌, ◌<◌, ◌≤◌, ltb, length};
 ghost use Rattle.paper.specs.Upload.{byte_at, actions_of, action_at};
 ghost use Rattle.paper.specs.Table.{table_of};
 ghost use Rattle.paper.specs.State.{fresh};
-ghost use Rattle.paper.specs.Image.{image_length, image_of, fits, sound, state_of};
-ghost use Rattle.paper.specs.Actions.{of_node, of_link};
-ghost use Rattle.paper.specs.Refusals.{table_refusal};
-ghost use Rattle.paper.specs.Calls.{refused_with, reported, report_answer, list_of_image, list_answer, list_buffer, fresh_answer, fresh_image, step_answer, step_image, replayed, replay_answer, run_answer, run_image};
+ghost use Rattle.paper.specs.Image.{image_length, image_of, fits, sound};
+ghost use Rattle.paper.specs.Actions.{reading, listed};
+ghost use Rattle.paper.specs.Calls.{reported, report_answer, list_answer, list_buffer, fresh_answer, fresh_image, step_answer, step_image, replayed, replay_answer, run_answer, run_image};
 ghost use Rattle.paper.specs.Runner.{longest};
-ghost use Rattle.marks.specs.Lent.{Lent};
+ghost use Rattle.cabling.specs.Cables.{cables};
+ghost use Rattle.marks.specs.Shown.{table, shown};
 ghost use Rattle.image.specs.Parts.{Blank};
+ghost use Rattle.automaton.specs.Tried.{TriedAs};
+ghost use Rattle.replay.specs.Refused.{answer_of, number_of};
 ghost use Rattle.replay.specs.Taken.{Taken};
 ghost use Rattle.replay.specs.Replaying.{ReplayedTo};
 ghost use Rattle.replay.specs.Running.{Advanced, RanTo};
-ghost use Rattle.cabling.specs.Accepted.{Accepted};
 
-// A refusal that is not of an action.
-fn refused(number: u8, place: u16) -> paper::Answer
-    ensures { result ≡ refused_with (record { number = number; place = place }) }
+use automaton::Refused;
+use cabling::Cabling;
+use marks::View;
+use paper::Answer;
+use refusal::Refusal;
+use upload::step::{Kind, Step};
+
+// What a call answers: its own answer, or that of its refusal.
+fn answered(outcome: Result<Answer, Refusal>) -> Answer
+    ensures { result ≡ answer_of outcome }
 {
-    paper::Answer {
-        refusal: number,
-        place: place,
-        steps: 0,
-        outcome: 0,
-        root: 255,
-        waiting: 0,
+    match outcome {
+        Ok(answer) => answer,
+        Err(refusal) => Answer::from(refusal),
     }
-}
-
-// Checks 3 to 8 of an upload, as an answer: refusal 0 where it is accepted.
-fn table_answer(upload: &[u8]) -> paper::Answer
-    ensures { result ≡ refused_with (table_refusal upload.now) }
-{
-    let checked = table::check(&*upload);
-    match checked {
-        table::Checked::Accepted { n, m, a } => refused(0, 0),
-        table::Checked::Refused { number, place } => refused(number, place),
-    }
-}
-
-// n + 2m.
-fn image_length(upload: &[u8]) -> usize
-    requires { Accepted upload.now }
-    ensures { (result ≡ image_length (table_of upload.now)) × (result ≤ 315) }
-{
-    upload::nodes(upload) + 2 * upload::links(upload)
 }
 
 // The image has n + 2m bytes.
-fn fitting(upload: &[u8], image: &[u8]) -> bool
-    requires { Accepted upload.now }
-    ensures { result ≡ fits (table_of upload.now) image.now }
+fn fitting<'a>(cabling: Cabling<'a>, image: &'a [u8]) -> Result<View<'a>, Refusal>
+    ensures fits { is_ok result ≡ fits (cables cabling.entry) image.now }
+    ensures view { IfOk result (λ v. (v.cabling ≡ cabling.entry) × (v.image ≡ image.entry)) }
+    ensures err { IfErr result (λ e. e ≡ Refusal.Image) }
 {
-    image.len() == image_length(upload)
+    if image.len() != cabling.image_length() {
+        return Err(Refusal::Image);
+    }
+    Ok(View { cabling, image })
 }
 
 // The image has n + 2m bytes and is sound.
-fn good_image(upload: &[u8], image: &[u8]) -> bool
-    requires { Accepted upload.now }
-    ensures { result ≡ (fits (table_of upload.now) image.now && sound (table_of upload.now) image.now) }
+fn sound_view<'a>(cabling: Cabling<'a>, image: &'a [u8]) -> Result<View<'a>, Refusal>
+    ensures sound { is_ok result ≡ (fits (cables cabling.entry) image.now && sound (cables cabling.entry) image.now) }
+    ensures view { IfOk result (λ v. (v.cabling ≡ cabling.entry) × (v.image ≡ image.entry)) }
+    ensures err { IfErr result (λ e. e ≡ Refusal.Image) }
 {
-    if fitting(upload, image) {
-        image::sound(upload, image)
-    } else {
-        false
+    let view = fitting(cabling, image)?;
+    if !image::sound(&view) {
+        return Err(Refusal::Image);
     }
+    Ok(view)
 }
 
-// The report of a lent image, behind a refusal, its place and the steps taken.
-fn reporting(upload: &[u8], image: &[u8], number: u8, place: u16, steps: u16) -> paper::Answer
-    requires { Lent upload.now image.now }
-    ensures { result ≡ reported (record { number = number; place = place }) steps (table_of upload.now) (state_of (table_of upload.now) image.now) }
+// The report of a view, behind a refusal, its place and the steps taken.
+fn reporting(view: &View, number: u8, place: u16, steps: u16) -> Answer
+    ensures { result ≡ reported (record { number = number; place = place }) steps (table view.now) (shown view.now) }
 {
-    let report = automaton::report_of(&*upload, &*image);
-    paper::Answer {
+    let report = automaton::report_of(view);
+    Answer {
         refusal: number,
-        place: place,
-        steps: steps,
-        outcome: report.outcome,
-        root: report.root,
+        place,
+        steps,
+        outcome: report.outcome as u8,
+        root: report.root.unwrap_or(255),
         waiting: report.waiting,
     }
 }
 
+fn try_report(upload: &[u8], image: &[u8]) -> Result<Answer, Refusal>
+    ensures { answer_of result ≡ report_answer upload.now image.now }
+{
+    let cabling = table::check(upload)?;
+    let view = sound_view(cabling, image)?;
+    Ok(reporting(&view, 0, 0, 0))
+}
+
 // Report: of a lent image.
-pub fn report(upload: &[u8], image: &[u8]) -> paper::Answer
+pub fn report(upload: &[u8], image: &[u8]) -> Answer
     ensures { result ≡ report_answer upload.now image.now }
 {
-    let checked = table_answer(upload);
-    if checked.refusal != 0 {
-        return checked;
-    }
-    if !good_image(upload, image) {
-        return refused(12, 0);
-    }
-    reporting(upload, image, 0, 0, 0)
+    answered(try_report(upload, image))
 }
 
 // The most bytes that a list has: 6 for a node, 12 for a link.
-fn most_listed(upload: &[u8]) -> usize
-    requires { Accepted upload.now }
-    ensures { result ≡ 6 * (table_of upload.now).nodes + 12 * (table_of upload.now).links }
+fn most_listed(cabling: &Cabling) -> usize
+    ensures { result ≡ 6 * (cables cabling.now).nodes + 12 * (cables cabling.now).links }
 {
-    6 * upload::nodes(upload) + 12 * upload::links(upload)
+    6 * cabling.nodes() + 12 * cabling.links()
 }
 
 // The buffer has no room for the list. The list is counted only where the buffer has no room for the longest.
-fn lacks_room(upload: &[u8], image: &[u8], buffer: &[u8]) -> bool
-    requires { Lent upload.now image.now }
-    ensures { result ≡ ltb (length buffer.now) (length (list_of_image upload.now image.now)) }
+fn lacks_room(view: &View, buffer: &[u8]) -> bool
+    ensures { result ≡ ltb (length buffer.now) (length (listed (table view.now) (shown view.now))) }
 {
-    if most_listed(upload) <= buffer.len() {
+    if most_listed(&view.cabling) <= buffer.len() {
         return false;
     }
-    buffer.len() < 3 * listing::count_listed(upload, image)
+    buffer.len() < 3 * listing::count_listed(view)
+}
+
+fn try_list(upload: &[u8], image: &[u8], buffer: &mut [u8]) -> Result<Answer, Refusal>
+    ensures value { answer_of result ≡ list_answer upload.now image.now buffer.old }
+    ensures buffer_after { buffer.new ≡ list_buffer upload.now image.now buffer.old }
+{
+    let cabling = table::check(upload)?;
+    let view = sound_view(cabling, image)?;
+    if lacks_room(&view, buffer) {
+        return Err(Refusal::Room);
+    }
+    let count = listing::list(&view, buffer);
+    Ok(reporting(&view, 0, 0, count as u16))
 }
 
 // List: the possible steps of a lent image, into a lent buffer.
-pub fn list(upload: &[u8], image: &[u8], buffer: &mut [u8]) -> paper::Answer
+pub fn list(upload: &[u8], image: &[u8], buffer: &mut [u8]) -> Answer
     ensures value { result ≡ list_answer upload.now image.now buffer.old }
     ensures buffer_after { buffer.new ≡ list_buffer upload.now image.now buffer.old }
 {
-    let checked = table_answer(upload);
-    if checked.refusal != 0 {
-        return checked;
-    }
-    if !good_image(upload, image) {
-        return refused(12, 0);
-    }
-    if lacks_room(upload, image, buffer) {
-        return refused(13, 0);
-    }
-    let count = listing::list(upload, image, buffer);
-    reporting(upload, image, 0, 0, count as u16)
+    answered(try_list(upload, image, buffer))
+}
+
+fn try_fresh(upload: &[u8], image: &mut [u8]) -> Result<Answer, Refusal>
+    ensures value { answer_of result ≡ fresh_answer upload.now image.old }
+    ensures image_after { image.new ≡ fresh_image upload.now image.old }
+{
+    let cabling = table::check(upload)?;
+    fitting(cabling, image)?;
+    image::make_fresh(&cabling, image);
+    Ok(reporting(&View { cabling, image }, 0, 0, 0))
 }
 
 // Fresh: makes the fresh image.
-pub fn fresh(upload: &[u8], image: &mut [u8]) -> paper::Answer
+pub fn fresh(upload: &[u8], image: &mut [u8]) -> Answer
     ensures value { result ≡ fresh_answer upload.now image.old }
     ensures image_after { image.new ≡ fresh_image upload.now image.old }
 {
-    let checked = table_answer(upload);
-    if checked.refusal != 0 {
-        return checked;
-    }
-    if !fitting(upload, image) {
-        return refused(12, 0);
-    }
-    image::make_fresh(upload, image);
-    reporting(upload, image, 0, 0, 0)
+    answered(try_fresh(upload, image))
 }
 
-// Takes an action of kind 1 or 5 if it can be taken, and answers the number by which it is refused, 0 if it is taken.
-fn act_at_node(upload: &[u8], image: &mut [u8], kind: u8, x: u8, y: u8) -> u8
-    requires { Lent upload.now image.old × (sound (table_of upload.now) image.old ≡ true) × (of_node kind ≡ true) }
-    ensures { Taken upload.now image.old kind x y result image.new }
+// What an action comes to, by its kind: the step that it names, where that is possible.
+fn tried(view: &View, kind: u8, x: u8, y: u8) -> Result<Step, Refused>
+    ensures { TriedAs (table view.now) (shown view.now) (reading (table view.now) kind x y) result }
 {
-    let tried = automaton::try_node(&*upload, image, kind as usize, x as usize, y as usize);
-    if tried.number == 0 {
-        image::take_at_node(&*upload, image, kind, x as usize);
+    match Kind::try_from(kind) {
+        Ok(Kind::Node(kind)) => automaton::try_node(view, kind, usize::from(x), usize::from(y)),
+        Ok(Kind::Link(kind)) => automaton::try_link(view, kind, usize::from(x), usize::from(y)),
+        Err(_) => Err(Refused::Unread),
     }
-    tried.number
 }
 
-// Takes an action of kinds 2 to 4 if it can be taken, and answers as for a node.
-fn act_on_link(upload: &[u8], image: &mut [u8], kind: u8, x: u8, y: u8) -> u8
-    requires { Lent upload.now image.old × (sound (table_of upload.now) image.old ≡ true) × (of_node kind ≡ false) × (of_link kind ≡ true) }
-    ensures { Taken upload.now image.old kind x y result image.new }
+// Takes an action if it can be taken.
+fn act(cabling: &Cabling, image: &mut [u8], kind: u8, x: u8, y: u8) -> Result<(), Refused>
+    requires { (length image.old ≡ image_length (cables cabling.now)) × (sound (cables cabling.now) image.old ≡ true) }
+    ensures { Taken cabling.now.upload.bytes.now image.old kind x y (number_of result) image.new }
 {
-    let named = automaton::try_link(&*upload, image, kind as usize, x as usize, y as usize);
-    if named.number == 0 {
-        image::take_on_link(&*upload, image, kind, named.link, named.back);
-    }
-    named.number
+    let view = View {
+        cabling: *cabling,
+        image: &*image,
+    };
+    let step = tried(&view, kind, x, y)?;
+    image::take(cabling, image, step);
+    Ok(())
 }
 
-// Takes an action if it can be taken, and answers the number by which it is refused, 0 if it is taken.
-fn act(upload: &[u8], image: &mut [u8], kind: u8, x: u8, y: u8) -> u8
-    requires { Lent upload.now image.old × (sound (table_of upload.now) image.old ≡ true) }
-    ensures { Taken upload.now image.old kind x y result image.new }
+fn try_step(
+    upload: &[u8],
+    image: &mut [u8],
+    kind: u8,
+    x: u8,
+    y: u8,
+) -> Result<Answer, Refusal>
+    ensures value { answer_of result ≡ step_answer upload.now image.old kind x y }
+    ensures image_after { image.new ≡ step_image upload.now image.old kind x y }
 {
-    if (kind == 1) | (kind == 5) {
-        act_at_node(&*upload, image, kind, x, y)
-    } else {
-        if (2 <= kind) & (kind <= 4) {
-            act_on_link(&*upload, image, kind, x, y)
-        } else {
-            9
-        }
-    }
+    let cabling = table::check(upload)?;
+    sound_view(cabling, image)?;
+    let taken = act(&cabling, image, kind, x, y);
+    let view = View { cabling, image };
+    Ok(match taken {
+        Ok(()) => reporting(&view, 0, 0, 1),
+        Err(refused) => reporting(&view, u8::from(refused), 0, 0),
+    })
 }
 
 // Step: one action on a lent image, as action 0.
-pub fn step(upload: &[u8], image: &mut [u8], kind: u8, x: u8, y: u8) -> paper::Answer
+pub fn step(upload: &[u8], image: &mut [u8], kind: u8, x: u8, y: u8) -> Answer
     ensures value { result ≡ step_answer upload.now image.old kind x y }
     ensures image_after { image.new ≡ step_image upload.now image.old kind x y }
 {
-    let checked = table_answer(upload);
-    if checked.refusal != 0 {
-        return checked;
-    }
-    if !good_image(upload, image) {
-        return refused(12, 0);
-    }
-    let number = act(upload, image, kind, x, y);
-    reporting(upload, image, number, 0, (number == 0) as u16)
+    answered(try_step(upload, image, kind, x, y))
 }
 
-// Where a replay has come to: the refusal of its first refused action with its place, and the number of actions taken.
-#[derive(Drop)]
+// A replay stopped at an action that cannot be taken.
+#[derive(Clone, Copy)]
 struct Stopped {
-    number: u8,
+    refused: Refused,
     place: u16,
-    steps: u16,
 }
 
 // Tries action i of an upload on a lent image.
-fn act_at(upload: &[u8], image: &mut [u8], i: usize) -> u8
-    requires { Lent upload.now image.old × (sound (table_of upload.now) image.old ≡ true) × (i < actions_of upload.now) }
-    ensures { Taken upload.now image.old (byte_at upload.now (action_at upload.now i)) (byte_at upload.now (action_at upload.now i + 1)) (byte_at upload.now (action_at upload.now i + 2)) result image.new }
+fn act_at(cabling: &Cabling, image: &mut [u8], i: usize) -> Result<(), Refused>
+    requires { (length image.old ≡ image_length (cables cabling.now)) × (sound (cables cabling.now) image.old ≡ true) × (i < actions_of cabling.now.upload.bytes.now) }
+    ensures { Taken cabling.now.upload.bytes.now image.old (byte_at cabling.now.upload.bytes.now (action_at cabling.now.upload.bytes.now i)) (byte_at cabling.now.upload.bytes.now (action_at cabling.now.upload.bytes.now i + 1)) (byte_at cabling.now.upload.bytes.now (action_at cabling.now.upload.bytes.now i + 2)) (number_of result) image.new }
 {
-    let at = 4 + 2 * upload::links(upload) + 3 * i;
-    act(upload, image, upload[at], upload[at + 1], upload[at + 2])
+    let bytes = cabling.upload.bytes;
+    let at = 4 + 2 * cabling.links() + 3 * i;
+    act(cabling, image, bytes[at], bytes[at + 1], bytes[at + 2])
 }
 
-// Takes the actions in turn on a fresh image, until one is refused or none is left.
-fn replay_into(upload: &[u8], image: &mut [u8]) -> Stopped
-    requires { Lent upload.now image.old × (image.old ≡ image_of (table_of upload.now) (fresh (table_of upload.now))) }
-    ensures { ReplayedTo upload.now result image.new }
+// Takes the actions in turn on a fresh image, until one is refused or none is left; answers how many were taken.
+fn replay_into(cabling: &Cabling, image: &mut [u8]) -> Result<u16, Stopped>
+    requires { (length image.old ≡ image_length (cables cabling.now)) × (image.old ≡ image_of (cables cabling.now) (fresh (cables cabling.now))) }
+    ensures { ReplayedTo cabling.now.upload.bytes.now result image.new }
 {
-    let a = upload::actions(upload);
-    let mut i: usize = 0;
-    while i < a {
-        let number = act_at(upload, image, i);
-        if number != 0 {
-            return Stopped {
-                number: number,
+    let a = cabling.upload.actions();
+    for i in 0..a {
+        if let Err(refused) = act_at(cabling, image, i) {
+            return Err(Stopped {
+                refused,
                 place: i as u16,
-                steps: i as u16,
-            };
+            });
         }
-        i += 1;
     }
-    Stopped {
-        number: 0,
-        place: 0,
-        steps: a as u16,
-    }
+    Ok(a as u16)
 }
 
 // Replays into a blank image, and reports.
-fn replay_on(upload: &[u8], image: &mut [u8]) -> paper::Answer
-    requires { Lent upload.now image.old × Blank image.old }
-    ensures { result ≡ reported (replayed upload.now).refusal (replayed upload.now).steps (table_of upload.now) (replayed upload.now).state }
+fn replay_on(cabling: &Cabling, image: &mut [u8]) -> Answer
+    requires { (length image.old ≡ image_length (cables cabling.now)) × Blank image.old }
+    ensures { result ≡ reported (replayed cabling.now.upload.bytes.now).refusal (replayed cabling.now.upload.bytes.now).steps (cables cabling.now) (replayed cabling.now.upload.bytes.now).state }
 {
-    image::wake(upload, image);
-    let stopped = replay_into(upload, image);
-    let end = automaton::report_of(&*upload, &*image);
-    paper::Answer {
-        refusal: stopped.number,
-        place: stopped.place,
-        steps: stopped.steps,
-        outcome: end.outcome,
-        root: end.root,
-        waiting: end.waiting,
+    image::wake(cabling, image);
+    let replayed = replay_into(cabling, image);
+    let view = View {
+        cabling: *cabling,
+        image,
+    };
+    match replayed {
+        Ok(steps) => reporting(&view, 0, 0, steps),
+        Err(stopped) => reporting(&view, u8::from(stopped.refused), stopped.place, stopped.place),
     }
+}
+
+fn try_replay(upload: &[u8]) -> Result<Answer, Refusal>
+    ensures { answer_of result ≡ replay_answer upload.now }
+{
+    let cabling = table::check(upload)?;
+    let mut image = [0u8; 315];
+    let length = cabling.image_length();
+    Ok(replay_on(&cabling, &mut image[..length]))
 }
 
 // Replay: the actions of an upload, from the fresh state.
-pub fn replay(upload: &[u8]) -> paper::Answer
+pub fn replay(upload: &[u8]) -> Answer
     ensures { result ≡ replay_answer upload.now }
 {
-    let checked = table_answer(&*upload);
-    if checked.refusal != 0 {
-        return checked;
-    }
-    let mut buffer: [u8; 315] = [0; 315];
-    let k = image_length(&*upload);
-    replay_on(&*upload, &mut buffer[..k])
+    answered(try_replay(upload))
 }
 
 // Takes the first listed step, if there is one.
-fn take_first(upload: &[u8], image: &mut [u8]) -> bool
-    requires { Lent upload.now image.old × (sound (table_of upload.now) image.old ≡ true) }
-    ensures { Advanced upload.now image.old result image.new }
+fn take_first(cabling: &Cabling, image: &mut [u8]) -> bool
+    requires { (length image.old ≡ image_length (cables cabling.now)) × (sound (cables cabling.now) image.old ≡ true) }
+    ensures { Advanced cabling.now.upload.bytes.now image.old result image.new }
 {
-    let first = first::first_listed(upload, image);
-    if first.found {
-        image::take(
-            upload,
-            image,
-            first.kind,
-            first.x as usize,
-            first.link,
-            first.back,
-        );
+    let view = View {
+        cabling: *cabling,
+        image: &*image,
+    };
+    match first::first_listed(&view) {
+        Some(step) => {
+            image::take(cabling, image, step);
+            true
+        }
+        None => false,
     }
-    first.found
 }
 
 // No run is longer than this.
-fn longest_run(upload: &[u8]) -> usize
-    requires { Accepted upload.now }
-    ensures { (result ≡ longest (table_of upload.now)) × (result ≤ 819) }
+fn longest_run(cabling: &Cabling) -> usize
+    ensures { (result ≡ longest (cables cabling.now)) × (result ≤ 819) }
 {
-    5 * upload::nodes(upload) + 4 * upload::links(upload)
+    5 * cabling.nodes() + 4 * cabling.links()
 }
 
 // Makes the image fresh and takes the first listed step until none is left; answers the steps taken.
-fn run_into(upload: &[u8], image: &mut [u8]) -> u16
-    requires { Lent upload.now image.old }
-    ensures { RanTo upload.now result image.new }
+fn run_into(cabling: &Cabling, image: &mut [u8]) -> u16
+    requires { length image.old ≡ image_length (cables cabling.now) }
+    ensures { RanTo cabling.now.upload.bytes.now result image.new }
 {
-    image::make_fresh(upload, image);
-    let most = longest_run(upload);
-    let mut steps: usize = 0;
-    while steps < most {
-        if !take_first(upload, image) {
+    image::make_fresh(cabling, image);
+    let most = longest_run(cabling);
+    for steps in 0..most {
+        if !take_first(cabling, image) {
             return steps as u16;
         }
-        steps += 1;
     }
-    steps as u16
+    most as u16
+}
+
+fn try_run(upload: &[u8], image: &mut [u8]) -> Result<Answer, Refusal>
+    ensures value { answer_of result ≡ run_answer upload.now image.old }
+    ensures image_after { image.new ≡ run_image upload.now image.old }
+{
+    let cabling = table::check(upload)?;
+    fitting(cabling, image)?;
+    let steps = run_into(&cabling, image);
+    Ok(reporting(&View { cabling, image }, 0, 0, steps))
 }
 
 // Run: the runner, which leaves the end image.
-pub fn run(upload: &[u8], image: &mut [u8]) -> paper::Answer
+pub fn run(upload: &[u8], image: &mut [u8]) -> Answer
     ensures value { result ≡ run_answer upload.now image.old }
     ensures image_after { image.new ≡ run_image upload.now image.old }
 {
-    let checked = table_answer(upload);
-    if checked.refusal != 0 {
-        return checked;
-    }
-    if !fitting(upload, image) {
-        return refused(12, 0);
-    }
-    let steps = run_into(upload, image);
-    reporting(upload, image, 0, 0, steps)
+    answered(try_run(upload, image))
 }
