@@ -1,14 +1,12 @@
 -- What is asked of one link, of one action and of a state.
-use Rattle.std.specs.Prelude.{ℕ, ◌+◌, Bool, true, false, cond, not, ◌&&◌, ◌||◌, List, ◌≡◌, eqb}
+use Rattle.std.specs.Prelude.{ℕ, ◌+◌, Bool, true, false, not, ◌&&◌, ◌||◌, List, eqb}
 use Rattle.counting.specs.Count.{bit}
 use Rattle.paper.specs.Table.{Table, table_of, target}
 use Rattle.paper.specs.State.{State}
 use Rattle.paper.specs.Image.{state_of}
 use Rattle.paper.specs.Steps.{Step, children_known, add_child, acknowledge, resolve, become_root}
-use Rattle.paper.specs.Actions.{Reading, names, unread, refused_by}
-use Rattle.paper.specs.Report.{moves_on, outcome_of, root_of, waiting_count}
-use Rattle.automaton.specs.declared.Tried.{Tried}
-use Rattle.automaton.specs.declared.Report.{Report}
+use Rattle.paper.specs.Actions.{Reading, names, unread}
+use Rattle.paper.specs.Report.{moves_on}
 
 -- the state that a lent image shows
 abbrev pub shown : List ℕ → List ℕ → State
@@ -25,10 +23,6 @@ lacks t s x i b = eqb (target t i b) x && not (s.child i b)
 -- how many of the two directions of link i do
 abbrev pub lacking : Table → State → ℕ → ℕ → ℕ
 lacking t s x i = bit (lacks t s x i false) + bit (lacks t s x i true)
-
--- the mark that a step at node x asks for: x waits for kind 1, and is not root for kind 5
-abbrev pub mark_allows : State → ℕ → ℕ → Bool
-mark_allows s kind x = cond (eqb kind 1) (s.waiting x) (not (s.root x))
 
 -- the link of a step on a direction, 0 for a step at a node
 abbrev pub link_of : Step → ℕ
@@ -56,18 +50,6 @@ abbrev pub end_read : Reading → Bool
 end_read (names x) = end_of x
 end_read (unread number) = false
 
--- what an action as read comes to
-pub record TriedAs (t : Table) (s : State) (read : Reading) (r : Tried) : Type 0 where
-  pub number : r.number ≡ refused_by t s read
-  pub link : r.link ≡ link_read read
-  pub back : r.back ≡ end_read read
-
 -- some step on link i is possible
 abbrev pub link_moves : Table → State → ℕ → Bool
 link_moves t s i = moves_on t s i false || moves_on t s i true
-
--- what a state comes to
-pub record Reported (t : Table) (s : State) (r : Report) : Type 0 where
-  pub outcome : r.outcome ≡ outcome_of t s
-  pub root : r.root ≡ root_of t s
-  pub waiting : r.waiting ≡ waiting_count t s
