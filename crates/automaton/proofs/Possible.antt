@@ -1,17 +1,14 @@
 -- When each kind of step is possible, from the marks and messages read.
 use Prim.Native.Nat.{ℕ, ◌<◌}
-use mathlib.Core.Bool.{Bool, true, false, cond, not, ◌&&◌}
+use mathlib.Core.Bool.{Bool, not, ◌&&◌}
 use mathlib.Core.Path.{◌≡◌, sym, ◌∙◌}
 use native.Mathlib.Omega.{arith}
 use native.Mathlib.Decide.{ℕ_discrete}
 use borrow.Author.Tests.{lt-ltb, le-leb, lt-leb, eq-eqb, ne_eqb}
 use lib.Dec.{leb, eqb}
-use Rattle.counting.specs.Count.{bit}
 use Rattle.paper.specs.Table.{Table, source, target}
 use Rattle.paper.specs.State.{State}
 use Rattle.paper.specs.Steps.{children_known, add_child, acknowledge, resolve, become_root, possible, carries, unheard}
-use Rattle.paper.specs.Actions.{node_step}
-use Rattle.automaton.specs.Tried.{mark_allows}
 
 module _ (t : Table) (s : State) where
   pub adds : (i : ℕ) (b : Bool) {w c : Bool} {x : ℕ} →
@@ -42,7 +39,7 @@ module _ (t : Table) (s : State) where
   unfolding possible
   resolves i b h x v y w = rw (lt-ltb i t.links h, v, x, w, y)
 
-  knows : (x : ℕ) {w q : Bool} → x < t.nodes → w ≡ s.waiting x → q ≡ leb (unheard t s x) 1 → (w && q) ≡ possible t s (children_known x)
+  pub knows : (x : ℕ) {w q : Bool} → x < t.nodes → w ≡ s.waiting x → q ≡ leb (unheard t s x) 1 → (w && q) ≡ possible t s (children_known x)
   unfolding possible
   knows x h w q = rw (lt-ltb x t.nodes h, w, q)
 
@@ -54,13 +51,6 @@ module _ (t : Table) (s : State) where
       go (yes e) = le-leb k 0 (omega arith) ∙ sym (eq-eqb k 0 e)
       go (no e) = lt-leb k 0 (omega arith) ∙ sym (ne_eqb k 0 e)
 
-  becomes : (x : ℕ) {w q : Bool} → x < t.nodes → w ≡ not (s.root x) → q ≡ leb (unheard t s x) 0 → (w && q) ≡ possible t s (become_root x)
+  pub becomes : (x : ℕ) {r q : Bool} → x < t.nodes → r ≡ s.root x → q ≡ leb (unheard t s x) 0 → (not r && q) ≡ possible t s (become_root x)
   unfolding possible
-  becomes x h w q = rw (lt-ltb x t.nodes h, w, q, none_within (unheard t s x))
-
-  pub at_node : (kind x : ℕ) {w q : Bool} → x < t.nodes → w ≡ mark_allows s kind x → q ≡ leb (unheard t s x) (bit (eqb kind 1)) → (w && q) ≡ possible t s (node_step kind x)
-  at_node kind x {w} {q} h = go (eqb kind 1)
-    where
-      go : (k : Bool) → w ≡ cond k (s.waiting x) (not (s.root x)) → q ≡ leb (unheard t s x) (bit k) → (w && q) ≡ possible t s (cond k (children_known x) (become_root x))
-      go true e f = knows x h e f
-      go false e f = becomes x h e f
+  becomes x h r q = rw (lt-ltb x t.nodes h, r, q, none_within (unheard t s x))

@@ -1,7 +1,7 @@
 -- An action that can be taken names a step of the table that is possible: at node x in kinds 1 and 5, else on the direction found.
 use Prim.Native.Nat.{ℕ, suc, ◌<◌}
 use mathlib.Core.Bool.{Bool, true, false, cond, ◌&&◌}
-use mathlib.Core.Path.{◌≡◌, refl, sym, ap, subst₂, ◌∙◌}
+use mathlib.Core.Path.{◌≡◌, refl, sym, ap, ◌∙◌}
 use native.Mathlib.Omega.{arith}
 use borrow.Author.Tests.{ltb-true, eqb-true}
 use lib.Dec.{ltb, eqb}
@@ -9,10 +9,15 @@ use Rattle.counting.proofs.Booleans.{and_left, and_right}
 use Rattle.paper.specs.Table.{Table}
 use Rattle.paper.specs.State.{State}
 use Rattle.paper.specs.Steps.{Step, possible}
+use Rattle.upload.specs.Kinds.{node_number, link_number, meant}
+use Rattle.upload.specs.declared.step.NodeKind.{NodeKind}
+use Rattle.upload.specs.declared.step.NodeKind.TheVariants.{ChildrenKnown, BecomeRoot}
+use Rattle.upload.specs.declared.step.LinkKind.{LinkKind}
+use Rattle.upload.specs.declared.step.LinkKind.TheVariants.{AddChild, Acknowledge, Resolve}
+use Rattle.upload.specs.declared.step.Step as step
+use Rattle.automaton.specs.Tried.{TriedAs}
+use Rattle.std.proofs.Common.{Ok}
 use Rattle.paper.specs.Actions.{Reading, names, unread, link_between, direction_from, node_step, link_step, read_node, read_link, of_node, of_link, reading, refused_by}
-use Rattle.automaton.specs.Tried.{link_read, end_read, TriedAs}
-use Rattle.automaton.specs.declared.Tried.{Tried}
-use Rattle.automaton.proofs.Named.{link_link, link_end}
 
 -- an action of kind 1 or 5 that can be taken
 pub record AtNode (t : Table) (s : State) (kind x y : ℕ) : Type 0 where
@@ -85,15 +90,19 @@ module _ (t : Table) (s : State) where
         may = allowed step found.1;
       }
 
--- what a caller learns where the number of an action tried is 0
-module _ {t : Table} {s : State} {r : Tried} (kind x y : ℕ) (tried : TriedAs t s (reading t kind x y) r) (taken : r.number ≡ 0) where
-  pub acts_at_node : of_node kind ≡ true → AtNode t s kind x y
-  acts_at_node e = taken_node t s kind x y e (sym tried.number ∙ taken)
+-- an action of a kind at a node, and one of a kind on a direction
+module _ (t : Table) (x y : ℕ) where
+  pub reading_at_node : (k : NodeKind) → reading t (node_number k) x y ≡ read_node t (node_number k) x y
+  unfolding reading
+  reading_at_node ChildrenKnown = refl
+  reading_at_node BecomeRoot = refl
 
-  pub acts_on_link : of_node kind ≡ false → OnLink t s kind x y r.link r.back
-  acts_on_link e =
-      let on = taken_link t s kind x y e (sym tried.number ∙ taken) in
-      let i = link_between t x y in
-      let link : link_between t x y ≡ r.link = sym (link_link kind i _) ∙ sym (ap link_read on.read) ∙ sym tried.link in
-      let back : direction_from t i x ≡ r.back = sym (link_end kind i _) ∙ sym (ap end_read on.read) ∙ sym tried.back in
-      subst₂ (OnLink t s kind x y) link back on
+  pub reading_on_link : (k : LinkKind) → reading t (link_number k) x y ≡ read_link t (link_number k) x y
+  unfolding reading
+  reading_on_link AddChild = refl
+  reading_on_link Acknowledge = refl
+  reading_on_link Resolve = refl
+
+-- what a caller learns where an action can be taken
+pub tried_may : {t : Table} {s : State} {read : Reading} {x : step.Step} → TriedAs t s read (Ok x) → possible t s (meant x) ≡ true
+tried_may {t} {s} {x} tried = allowed t s (meant x) (ap (refused_by t s) tried.reads ∙ sym tried.number)

@@ -2,386 +2,296 @@
 
 #![tactic(auto)]
 
-ghost use Rattle.std.specs.Prelude.{◌≡◌, ◌+◌, ◌*◌, ◌<◌, ◌≤◌, cond, true, leb};
-ghost use Rattle.paper.specs.Upload.{nodes_of, links_of};
-ghost use Rattle.paper.specs.Table.{table_of};
-ghost use Rattle.paper.specs.Steps.{unheard, possible, add_child, acknowledge, resolve};
-ghost use Rattle.paper.specs.Actions.{link_between, node_step, link_step, read_node, read_link, names, direction_from};
+ghost use Rattle.std.specs.Prelude.{◌≡◌, ◌<◌, ◌≤◌, ◌||◌, leb, true};
 ghost use Rattle.counting.specs.Count.{some};
+ghost use Rattle.paper.specs.Steps.{unheard, possible};
+ghost use Rattle.paper.specs.Actions.{link_between, node_step, link_step, read_node, read_link};
 ghost use Rattle.paper.specs.Report.{moves_at, moves_on, moving, roots, root_of, waiting_count, outcome_at_rest, outcome_of};
-ghost use Rattle.cabling.specs.Accepted.{Accepted};
-ghost use Rattle.marks.specs.Lent.{Lent};
-ghost use Rattle.automaton.specs.Tried.{shown, touching, lacking, mark_allows, link_moves, TriedAs, Reported};
+ghost use Rattle.upload.specs.Kinds.{node_number, link_number};
+ghost use Rattle.cabling.specs.Cables.{cables};
+ghost use Rattle.marks.specs.Shown.{table, shown};
+ghost use Rattle.automaton.specs.Tried.{touching, lacking, link_moves, refused_number, outcome_number, Told, direction_read, refused_unless, TriedAs, Reported};
+
+use cabling::Cabling;
+use marks::View;
+use upload::Direction;
+use upload::step::{LinkKind, NodeKind, Step};
 
 // Link i is one of x's.
-fn touches(upload: &[u8], x: usize, i: usize) -> bool
-    requires { Accepted upload.now × (i < links_of upload.now) }
-    ensures { result ≡ touching (table_of upload.now) x i }
+fn touches(cabling: &Cabling, x: usize, i: usize) -> bool
+    requires { i < (cables cabling.now).links }
+    ensures { result ≡ touching (cables cabling.now) x i }
 {
-    (upload::end(upload, i, false) == x) | (upload::end(upload, i, true) == x)
+    (cabling.upload.end(i, false) == x) | (cabling.upload.end(i, true) == x)
 }
 
 // How many directions of link i, one of x's, go to x and lack child: one or none.
-fn lacking_on(upload: &[u8], image: &[u8], x: usize, i: usize) -> usize
-    requires { Lent upload.now image.now × (i < links_of upload.now) × (touching (table_of upload.now) x i ≡ true) }
-    ensures { (result ≡ lacking (table_of upload.now) (shown upload.now image.now) x i) × (result ≤ 1) }
+fn lacking_on(view: &View, x: usize, i: usize) -> usize
+    requires { (i < (table view.now).links) × (touching (table view.now) x i ≡ true) }
+    ensures { (result ≡ lacking (table view.now) (shown view.now) x i) × (result ≤ 1) }
 {
-    let back = upload::end(upload, i, false) == x;
-    !marks::child(upload, image, i, back) as usize
+    let into = Direction {
+        link: i,
+        back: view.cabling.upload.end(i, false) == x,
+    };
+    usize::from(!view.child(into))
 }
 
 // At most so many directions into x lack child.
-fn unheard_within(upload: &[u8], image: &[u8], x: usize, few: usize) -> bool
-    requires { Lent upload.now image.now }
-    ensures { result ≡ leb (unheard (table_of upload.now) (shown upload.now image.now) x) few }
+fn unheard_within(view: &View, x: usize, few: usize) -> bool
+    ensures { result ≡ leb (unheard (table view.now) (shown view.now) x) few }
 {
-    let m = upload::links(upload);
     let mut count: usize = 0;
-    let mut i: usize = 0;
-    while i < m {
-        if touches(upload, x, i) {
-            count += lacking_on(upload, image, x, i);
+    for i in 0..view.cabling.links() {
+        if touches(&view.cabling, x, i) {
+            count += lacking_on(view, x, i);
             if few < count {
                 return false;
             }
         }
-        i += 1;
     }
     true
 }
 
-// A node of link i: its first, or its second.
-pub fn end_node(upload: &[u8], i: usize, second: bool) -> usize
-    requires { Accepted upload.now × (i < links_of upload.now) }
-    ensures { (result ≡ (table_of upload.now).end i second) × (result < nodes_of upload.now) }
+// A step at node x is possible: its mark allows it, and at most one direction into x lacks child, none for a step that makes it root.
+pub fn node_possible(view: &View, kind: NodeKind, x: usize) -> bool
+    requires { x < (table view.now).nodes }
+    ensures { result ≡ possible (table view.now) (shown view.now) (node_step (node_number kind) x) }
 {
-    upload::end(upload, i, second)
+    match kind {
+        NodeKind::ChildrenKnown => view.waiting(x) && unheard_within(view, x, 1),
+        NodeKind::BecomeRoot => !view.root(x) && unheard_within(view, x, 0),
+    }
 }
 
-// The mark of node x allows kind 1 or 5: it waits, or it is not root.
-fn mark_allows(upload: &[u8], image: &[u8], kind: usize, x: usize) -> bool
-    requires { Lent upload.now image.now × (x < nodes_of upload.now) }
-    ensures { result ≡ mark_allows (shown upload.now image.now) kind x }
+// A step on a direction is possible.
+pub fn link_possible(view: &View, kind: LinkKind, d: Direction) -> bool
+    requires { d.link < (table view.now).links }
+    ensures { result ≡ possible (table view.now) (shown view.now) (link_step (link_number kind) d.link d.back) }
 {
-    if kind == 1 {
-        marks::waiting(upload, image, x)
+    let target = view.cabling.target(d);
+    match kind {
+        LinkKind::AddChild => view.waiting(target) & view.carrying(d),
+        LinkKind::Acknowledge => !view.waiting(target) & view.carrying(d),
+        LinkKind::Resolve => view.contending(view.cabling.source(d)) & view.contending(target),
+    }
+}
+
+// Why an action cannot be taken.
+#[derive(Clone, Copy, PartialEq, Eq)]
+pub enum Refused {
+    // it names no node where it has to, or a second one where it may not
+    Unread,
+    // no link joins the two nodes that it names
+    NoLink,
+    // the step that it names is not possible
+    Impossible(Step),
+}
+
+impl From<Refused> for u8 {
+    ghost from_gives = { λ refused number. number ≡ refused_number refused };
+
+    fn from(refused: Refused) -> u8 {
+        match refused {
+            Refused::Unread => 9,
+            Refused::NoLink => 10,
+            Refused::Impossible(_) => 11,
+        }
+    }
+}
+
+// What an action comes to that names a step, possible or not.
+fn refused_unless(possible: bool, step: Step) -> Result<Step, Refused>
+    ensures { result ≡ refused_unless possible step }
+{
+    if possible {
+        Ok(step)
     } else {
-        !marks::root(upload, image, x)
+        Err(Refused::Impossible(step))
     }
 }
 
-// The step of kind 1 or 5 at node x is possible: its mark allows it, and at most one direction into x lacks child, none for kind 5.
-pub fn node_possible(upload: &[u8], image: &[u8], kind: usize, x: usize) -> bool
-    requires { Lent upload.now image.now × (x < nodes_of upload.now) }
-    ensures { result ≡ possible (table_of upload.now) (shown upload.now image.now) (node_step kind x) }
+// What an action comes to whose kind is that of a step at a node. It names no second node: its y is 255.
+pub fn try_node(view: &View, kind: NodeKind, x: usize, y: usize) -> Result<Step, Refused>
+    ensures { TriedAs (table view.now) (shown view.now) (read_node (table view.now) (node_number kind) x y) result }
 {
-    if mark_allows(&*upload, &*image, kind, x) {
-        unheard_within(&*upload, &*image, x, (kind == 1) as usize)
+    if (x < view.cabling.nodes()) & (y == 255) {
+        refused_unless(node_possible(view, kind, x), Step::Node(kind, x))
     } else {
-        false
+        Err(Refused::Unread)
     }
 }
 
-// Kind 2 is possible on a direction of link i.
-fn may_add_child(upload: &[u8], image: &[u8], i: usize, back: bool) -> bool
-    requires { Lent upload.now image.now × (i < links_of upload.now) }
-    ensures { result ≡ possible (table_of upload.now) (shown upload.now image.now) (add_child i back) }
+// The first link that joins x and y.
+fn link_between(cabling: &Cabling, x: usize, y: usize) -> Option<usize>
+    requires { (x < 256) × (y < 256) }
+    ensures { Told (cables cabling.now).links (cables cabling.now).links (link_between (cables cabling.now) x y) result }
 {
-    marks::waiting(upload, image, end_node(upload, i, !back))
-        & marks::carrying(upload, image, i, back)
+    (0..cabling.links()).find(|&i| cabling.upload.joins(x, y, i))
 }
 
-// Kind 3 is possible on a direction of link i.
-fn may_acknowledge(upload: &[u8], image: &[u8], i: usize, back: bool) -> bool
-    requires { Lent upload.now image.now × (i < links_of upload.now) }
-    ensures { result ≡ possible (table_of upload.now) (shown upload.now image.now) (acknowledge i back) }
+// The direction from x to y.
+fn direction_from(cabling: &Cabling, x: usize, y: usize) -> Result<Direction, Refused>
+    ensures { result ≡ direction_read (cables cabling.now) x y }
 {
-    !marks::waiting(upload, image, end_node(upload, i, !back))
-        & marks::carrying(upload, image, i, back)
-}
-
-// Kind 4 is possible on a direction of link i.
-fn may_resolve(upload: &[u8], image: &[u8], i: usize, back: bool) -> bool
-    requires { Lent upload.now image.now × (i < links_of upload.now) }
-    ensures { result ≡ possible (table_of upload.now) (shown upload.now image.now) (resolve i back) }
-{
-    marks::contending(upload, image, end_node(upload, i, back))
-        & marks::contending(upload, image, end_node(upload, i, !back))
-}
-
-// What an action comes to: the number by which it is refused, 0 if it can be taken, and the direction that it names.
-#[derive(Clone, Copy)]
-pub struct Tried {
-    pub number: u8,
-    pub link: usize,
-    pub back: bool,
-}
-
-// The link that joins x and y, m where none does.
-fn link_between(upload: &[u8], x: usize, y: usize) -> usize
-    requires { Accepted upload.now × (x < 256) × (y < 256) }
-    ensures { (result ≡ link_between (table_of upload.now) x y) × (result ≤ links_of upload.now) }
-{
-    let m = upload::links(upload);
-    let mut i: usize = 0;
-    while i < m {
-        if upload::joins(upload, x, y, i) {
-            return i;
-        }
-        i += 1;
+    let n = cabling.nodes();
+    if (n <= x) | (n <= y) {
+        return Err(Refused::Unread);
     }
-    m
+    let link = link_between(cabling, x, y).ok_or(Refused::NoLink)?;
+    Ok(Direction {
+        link,
+        back: cabling.upload.end(link, false) != x,
+    })
 }
 
-// The step of kinds 2 to 4 on a direction of link i is possible.
-pub fn link_possible(upload: &[u8], image: &[u8], kind: usize, i: usize, back: bool) -> bool
-    requires { Lent upload.now image.now × (i < links_of upload.now) }
-    ensures { result ≡ possible (table_of upload.now) (shown upload.now image.now) (link_step kind i back) }
+// What an action comes to whose kind is that of a step on a direction.
+pub fn try_link(view: &View, kind: LinkKind, x: usize, y: usize) -> Result<Step, Refused>
+    ensures { TriedAs (table view.now) (shown view.now) (read_link (table view.now) (link_number kind) x y) result }
 {
-    if kind == 2 {
-        may_add_child(upload, image, i, back)
-    } else {
-        if kind == 3 {
-            may_acknowledge(upload, image, i, back)
-        } else {
-            may_resolve(upload, image, i, back)
-        }
+    let d = direction_from(&view.cabling, x, y)?;
+    refused_unless(link_possible(view, kind, d), Step::Link(kind, d))
+}
+
+// What a state has come to.
+#[derive(Clone, Copy, PartialEq, Eq)]
+pub enum Outcome {
+    // some step is possible
+    Moving = 1,
+    // no step is possible, and one node is root
+    Root = 2,
+    // no step is possible, no node is root, some node waits, and there are at least as many links as nodes
+    Loop = 3,
+    // all else
+    Odd = 4,
+}
+
+impl From<Outcome> for u8 {
+    ghost from_gives = { λ outcome number. number ≡ outcome_number outcome };
+
+    fn from(outcome: Outcome) -> u8 {
+        outcome as u8
     }
 }
 
-// The number of a step that is possible or not.
-fn refused_unless(taken: bool) -> u8
-    ensures { result ≡ cond taken 0 11 }
-{
-    if taken { 0 } else { 11 }
-}
-
-// What an action of kind 1 or 5 comes to.
-pub fn try_node(upload: &[u8], image: &[u8], kind: usize, x: usize, y: usize) -> Tried
-    requires { Lent upload.now image.now }
-    ensures { TriedAs (table_of upload.now) (shown upload.now image.now) (read_node (table_of upload.now) kind x y) result }
-{
-    if (x < upload::nodes(upload)) & (y == 255) {
-        Tried {
-            number: refused_unless(node_possible(upload, image, kind, x)),
-            link: 0,
-            back: false,
-        }
-    } else {
-        Tried {
-            number: 9,
-            link: 0,
-            back: false,
-        }
-    }
-}
-
-// An action of kinds 2 to 4 that names link i, from x.
-fn try_direction(upload: &[u8], image: &[u8], kind: usize, i: usize, x: usize) -> Tried
-    requires { Lent upload.now image.now × (i < links_of upload.now) }
-    ensures { TriedAs (table_of upload.now) (shown upload.now image.now) (names (link_step kind i (direction_from (table_of upload.now) i x))) result }
-{
-    let back = !(end_node(upload, i, false) == x);
-    Tried {
-        number: refused_unless(link_possible(upload, image, kind, i, back)),
-        link: i,
-        back: back,
-    }
-}
-
-// What an action of kinds 2 to 4 comes to.
-pub fn try_link(upload: &[u8], image: &[u8], kind: usize, x: usize, y: usize) -> Tried
-    requires { Lent upload.now image.now }
-    ensures { TriedAs (table_of upload.now) (shown upload.now image.now) (read_link (table_of upload.now) kind x y) result }
-{
-    let n = upload::nodes(upload);
-    if (x < n) & (y < n) {
-        let i = link_between(upload, x, y);
-        if i < upload::links(upload) {
-            try_direction(upload, image, kind, i, x)
-        } else {
-            Tried {
-                number: 10,
-                link: 0,
-                back: false,
-            }
-        }
-    } else {
-        Tried {
-            number: 9,
-            link: 0,
-            back: false,
-        }
-    }
-}
-
-// What a state comes to: the outcome, the lowest root node or 255, and how many nodes wait.
-#[derive(Clone, Copy)]
+// What is reported of a state: its outcome, the lowest root node, and how many nodes wait.
+#[derive(Clone, Copy, PartialEq, Eq)]
 pub struct Report {
-    pub outcome: u8,
-    pub root: u8,
+    pub outcome: Outcome,
+    pub root: Option<u8>,
     pub waiting: u8,
 }
 
 // Some step at node x is possible.
-fn node_moves(upload: &[u8], image: &[u8], x: usize) -> bool
-    requires { Lent upload.now image.now × (x < nodes_of upload.now) }
-    ensures { result ≡ moves_at (table_of upload.now) (shown upload.now image.now) x }
+fn node_moves(view: &View, x: usize) -> bool
+    requires { x < (table view.now).nodes }
+    ensures { result ≡ moves_at (table view.now) (shown view.now) x }
 {
-    if node_possible(upload, image, 1, x) {
-        true
-    } else {
-        node_possible(upload, image, 5, x)
-    }
+    node_possible(view, NodeKind::ChildrenKnown, x) || node_possible(view, NodeKind::BecomeRoot, x)
 }
 
-// Some step on a direction of link i is possible: the direction carries a message, or both its nodes contend.
-fn direction_moves(upload: &[u8], image: &[u8], i: usize, back: bool) -> bool
-    requires { Lent upload.now image.now × (i < links_of upload.now) }
-    ensures { result ≡ moves_on (table_of upload.now) (shown upload.now image.now) i back }
+// Some step on a direction is possible: it carries a message, or both its nodes contend.
+fn direction_moves(view: &View, d: Direction) -> bool
+    requires { d.link < (table view.now).links }
+    ensures { result ≡ moves_on (table view.now) (shown view.now) d.link d.back }
 {
-    marks::carrying(upload, image, i, back) | may_resolve(upload, image, i, back)
+    view.carrying(d) | link_possible(view, LinkKind::Resolve, d)
 }
 
 // Some step on link i is possible.
-fn link_moves(upload: &[u8], image: &[u8], i: usize) -> bool
-    requires { Lent upload.now image.now × (i < links_of upload.now) }
-    ensures { result ≡ link_moves (table_of upload.now) (shown upload.now image.now) i }
+fn link_moves(view: &View, i: usize) -> bool
+    requires { i < (table view.now).links }
+    ensures { result ≡ link_moves (table view.now) (shown view.now) i }
 {
-    direction_moves(upload, image, i, false) | direction_moves(upload, image, i, true)
+    let forth = Direction {
+        link: i,
+        back: false,
+    };
+    direction_moves(view, forth) | direction_moves(view, forth.reverse())
 }
 
-// Some step of kind 1 or 5 is possible.
-fn some_node_moves(upload: &[u8], image: &[u8]) -> bool
-    requires { Lent upload.now image.now }
-    ensures { result ≡ some (nodes_of upload.now) (moves_at (table_of upload.now) (shown upload.now image.now)) }
+// Some step at a node is possible.
+fn some_node_moves(view: &View) -> bool
+    ensures { result ≡ some (table view.now).nodes (moves_at (table view.now) (shown view.now)) }
 {
-    let n = upload::nodes(upload);
-    let mut x: usize = 0;
-    while x < n {
-        if node_moves(upload, image, x) {
-            return true;
-        }
-        x += 1;
-    }
-    false
+    (0..view.cabling.nodes()).any(|x| node_moves(view, x))
 }
 
-// Some step of kinds 2 to 4 is possible.
-fn some_link_moves(upload: &[u8], image: &[u8]) -> bool
-    requires { Lent upload.now image.now }
-    ensures { result ≡ some (links_of upload.now) (link_moves (table_of upload.now) (shown upload.now image.now)) }
+// Some step on a direction is possible.
+fn some_link_moves(view: &View) -> bool
+    ensures { result ≡ some (table view.now).links (link_moves (table view.now) (shown view.now)) }
 {
-    let m = upload::links(upload);
-    let mut i: usize = 0;
-    while i < m {
-        if link_moves(upload, image, i) {
-            return true;
-        }
-        i += 1;
-    }
-    false
+    (0..view.cabling.links()).any(|i| link_moves(view, i))
 }
 
 // Some step is possible.
-fn is_moving(upload: &[u8], image: &[u8]) -> bool
-    requires { Lent upload.now image.now }
-    ensures { result ≡ moving (table_of upload.now) (shown upload.now image.now) }
+#[tactic(auto, unfolding(paper::specs::Report::moving))]
+fn is_moving(view: &View) -> bool
+    ensures { result ≡ moving (table view.now) (shown view.now) }
 {
-    if some_node_moves(upload, image) {
-        true
-    } else {
-        some_link_moves(upload, image)
-    }
+    some_node_moves(view) || some_link_moves(view)
 }
 
 // How many nodes are root.
-fn root_count(upload: &[u8], image: &[u8]) -> usize
-    requires { Lent upload.now image.now }
-    ensures { result ≡ roots (table_of upload.now) (shown upload.now image.now) }
+fn root_count(view: &View) -> usize
+    ensures { result ≡ roots (table view.now) (shown view.now) }
 {
-    let n = upload::nodes(upload);
-    let mut count: usize = 0;
-    let mut x: usize = 0;
-    while x < n {
-        count += marks::root(upload, image, x) as usize;
-        x += 1;
-    }
-    count
+    (0..view.cabling.nodes()).filter(|&x| view.root(x)).count()
 }
 
 // How many nodes wait.
-fn waiting_count(upload: &[u8], image: &[u8]) -> usize
-    requires { Lent upload.now image.now }
-    ensures { (result ≡ waiting_count (table_of upload.now) (shown upload.now image.now)) × (result ≤ 63) }
+fn waiting_count(view: &View) -> usize
+    ensures { (result ≡ waiting_count (table view.now) (shown view.now)) × (result ≤ 63) }
 {
-    let n = upload::nodes(upload);
-    let mut count: usize = 0;
-    let mut x: usize = 0;
-    while x < n {
-        count += marks::waiting(upload, image, x) as usize;
-        x += 1;
-    }
-    count
+    (0..view.cabling.nodes())
+        .filter(|&x| view.waiting(x))
+        .count()
 }
 
-// The lowest root node, 255 if none.
-fn lowest_root(upload: &[u8], image: &[u8]) -> usize
-    requires { Lent upload.now image.now }
-    ensures { (result ≡ root_of (table_of upload.now) (shown upload.now image.now)) × (result ≤ 255) }
+// The lowest root node.
+fn lowest_root(view: &View) -> Option<u8>
+    ensures { Told (table view.now).nodes 255 (root_of (table view.now) (shown view.now)) result }
 {
-    let n = upload::nodes(upload);
-    let mut x: usize = 0;
-    while x < n {
-        if marks::root(upload, image, x) {
-            return x;
-        }
-        x += 1;
-    }
-    255
+    let n = view.cabling.nodes() as u8;
+    (0..n).find(|&x| view.root(usize::from(x)))
 }
 
 // The outcome where no step is possible.
-fn outcome_at_rest(n: usize, m: usize, root_nodes: usize, waiting: usize) -> u8
-    ensures { result ≡ outcome_at_rest n m root_nodes waiting }
+fn outcome_at_rest(n: usize, m: usize, root_nodes: usize, waiting: usize) -> Outcome
+    ensures { outcome_number result ≡ outcome_at_rest n m root_nodes waiting }
 {
-    if root_nodes == 1 {
-        2
-    } else {
-        if (root_nodes == 0) & ((0 < waiting) & (n <= m)) {
-            3
-        } else {
-            4
-        }
+    match root_nodes {
+        1 => Outcome::Root,
+        0 if (0 < waiting) & (n <= m) => Outcome::Loop,
+        _ => Outcome::Odd,
     }
 }
 
-// The outcome.
-fn outcome(upload: &[u8], image: &[u8], waiting: usize) -> u8
-    requires { Lent upload.now image.now × (waiting ≡ waiting_count (table_of upload.now) (shown upload.now image.now)) }
-    ensures { result ≡ outcome_of (table_of upload.now) (shown upload.now image.now) }
+// The outcome of a state with so many nodes that wait.
+fn outcome_of(view: &View, waiting: usize) -> Outcome
+    requires { waiting ≡ waiting_count (table view.now) (shown view.now) }
+    ensures { outcome_number result ≡ outcome_of (table view.now) (shown view.now) }
 {
-    if is_moving(upload, image) {
-        1
+    if is_moving(view) {
+        Outcome::Moving
     } else {
         outcome_at_rest(
-            upload::nodes(upload),
-            upload::links(upload),
-            root_count(upload, image),
+            view.cabling.nodes(),
+            view.cabling.links(),
+            root_count(view),
             waiting,
         )
     }
 }
 
-// The report of the state that a lent image shows.
-pub fn report_of(upload: &[u8], image: &[u8]) -> Report
-    requires { Lent upload.now image.now }
-    ensures { Reported (table_of upload.now) (shown upload.now image.now) result }
+// The report of the state that a view shows.
+pub fn report_of(view: &View) -> Report
+    ensures { Reported (table view.now) (shown view.now) result }
 {
-    let waiting = waiting_count(upload, image);
+    let waiting = waiting_count(view);
     Report {
-        outcome: outcome(upload, image, waiting),
-        root: lowest_root(upload, image) as u8,
+        outcome: outcome_of(view, waiting),
+        root: lowest_root(view),
         waiting: waiting as u8,
     }
 }

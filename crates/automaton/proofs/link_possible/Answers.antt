@@ -1,11 +1,14 @@
-use borrow.Author.Tests.{eq-eqb, ne_eqb}
+use Rattle.automaton.proofs.Possible.{adds, acknowledges, resolves}
 use Rattle.automaton.proofs.link_possible.Goals as goal
 
-pub returns-then-kind-eq2 : goal.returns-then-kind-eq2
-returns-then-kind-eq2 c = rw (eq-eqb _ 2 c.if-kind-eq2.true) c.may_add_child.ensures
+pub returns-in-AddChild : goal.returns-in-AddChild
+returns-in-AddChild c =
+    rw c.in-AddChild.is (adds _ _ _ _ c.requires c.target-target.ensures.0 c.waiting.ensures c.carrying.ensures)
 
-pub returns-then-kind-eq3 : goal.returns-then-kind-eq3
-returns-then-kind-eq3 c = rw (ne_eqb _ 2 c.if-kind-eq2.false, eq-eqb _ 3 c.if-kind-eq3.true) c.may_acknowledge.ensures
+pub returns-in-Acknowledge : goal.returns-in-Acknowledge
+returns-in-Acknowledge c =
+    rw c.in-Acknowledge.is (acknowledges _ _ _ _ c.requires c.target-target.ensures.0 c.waiting-in-Acknowledge.ensures c.carrying-in-Acknowledge.ensures)
 
-pub returns-else-kind-eq3 : goal.returns-else-kind-eq3
-returns-else-kind-eq3 c = rw (ne_eqb _ 2 c.if-kind-eq2.false, ne_eqb _ 3 c.if-kind-eq3.false) c.may_resolve.ensures
+pub returns-in-Resolve : goal.returns-in-Resolve
+returns-in-Resolve c =
+    rw c.in-Resolve.is (resolves _ _ _ _ c.requires c.source.ensures.0 c.contending.ensures c.target-target.ensures.0 c.contending-in-Resolve.ensures)

@@ -1,33 +1,14 @@
-use borrow.Author.Rules.{rules}
-use Prim.Native.Nat.{ℕ}
-use mathlib.Core.Path.{◌≡◌, sym, ap, ◌∙◌}
-use native.Mathlib.Omega.{arith}
-use Rattle.counting.proofs.Bits.{bit_most}
-use Rattle.counting.proofs.Sums.{sum_empty, sum_more}
-use Rattle.counting.specs.Count.{bit}
-use Rattle.paper.specs.Upload.{nodes_of}
-use Rattle.automaton.specs.Tried.{shown}
-use Rattle.automaton.proofs.More.{sum_end}
+use Rattle.std.proofs.Common.{rules, tests, arith, ◌∙◌}
+use Rattle.std.proofs.lemmas.Iterator.{YieldsList-from_range}
+use Rattle.std.proofs.lemmas.Iterator.Consumers.{count_from_yields_List, YieldsList-from_filter}
+use Rattle.counting.proofs.Ranges.{filter_is_count}
+use Rattle.counting.proofs.Sums.{count_below}
+use Rattle.marks.specs.Shown.{table, shown}
 use Rattle.automaton.proofs.waiting_count.Goals as goal
-
-pub loop-x-init : goal.loop-x-init
-loop-x-init c = (search rules, c.nodes-n.ensures.0, sym (sum_empty _), search rules)
-
-pub overflow_add-count : goal.overflow_add-count
-overflow_add-count c = omega (arith, bit_most c.waiting.result)
-
-pub loop-x-preserved : goal.loop-x-preserved
-loop-x-preserved c =
-    let now = c.loop-x in
-    let marked : ℕ → ℕ = λ k. bit ((shown c.args.upload.now c.args.image.now).waiting k) in (
-      search rules,
-      now.invariant.1,
-      omega (arith, ap bit c.waiting.ensures, now.invariant.2, sum_more now.x marked),
-      omega (arith, bit_most c.waiting.result),
-    )
 
 pub returns : goal.returns
 returns c =
-    let now = c.loop-x in
-    let all : now.x ≡ nodes_of c.args.upload.now = omega arith in
-    (now.invariant.2 ∙ sum_end _ all, omega (arith, c.requires.table.nodes_fit))
+    let marked = (shown c.args.view.now).waiting in
+    let n = (table c.args.view.now).nodes in
+    let same = count_from_yields_List c.filter.result _ c.count.ensures.ran (YieldsList-from_filter _ marked (YieldsList-from_range 0 n n (search rules) (search rules)) c.filter.ensures.closure (λ x b q k. search (rules, tests))) ∙ filter_is_count marked n in
+    (same, omega (arith, same, count_below n marked, c.args.view.now.cabling.passes.nodes_fit))
