@@ -1,84 +1,63 @@
 -- What trying one action on a lent image comes to: where the action can be taken, and where it is refused.
-use Prim.Native.Nat.{ℕ, ◌≤◌}
-use mathlib.Core.Bool.{Bool, true, false, cond, false≢true, ◌&&◌}
+use Prim.Native.Nat.{ℕ, ◌≤◌, ◌<◌}
+use mathlib.Core.Bool.{Bool, true, false, cond, ◌||◌, ◌&&◌}
 use mathlib.Core.Path.{◌≡◌, refl, sym, ap, subst, ◌∙◌}
-use mathlib.Core.Logic.{◌⊎◌, inl, inr, ⊎_elim}
+use mathlib.Core.Logic.{◌⊎◌, inl, inr}
 use mathlib.Core.List.{List}
 use native.Mathlib.Omega.{arith}
 use lib.Dec.{eqb, leb, ltb}
-use borrow.Author.Tests.{eqb-true, leb-true, eq-eqb, ne_eqb}
+use borrow.Author.Tests.{eq-eqb, ne_eqb, lt-leb}
+use Rattle.std.specs.Prelude.{Result, Ok, Err}
 use Rattle.paper.specs.Table.{Table, table_of}
 use Rattle.paper.specs.State.{State}
 use Rattle.paper.specs.Steps.{Step, possible, effect}
 use Rattle.paper.specs.Image.{state_of, image_of, sound}
 use Rattle.paper.specs.Actions.{Reading, names, unread, of_node, of_link, node_step, link_step, reading, read_node, read_link, link_between, direction_from, refused_by, state_after}
-use Rattle.counting.proofs.Booleans.{or_cases, and_left, and_right}
+use Rattle.upload.specs.declared.step.Step as step
+use Rattle.upload.specs.declared.step.NodeKind.{NodeKind}
+use Rattle.upload.specs.declared.step.LinkKind.{LinkKind}
+use Rattle.upload.specs.Kinds.{node_number, link_number, meant}
 use Rattle.marks.specs.Lent.{Lent}
-use Rattle.image.specs.Taken.{step_of, Named, Holds}
+use Rattle.image.specs.Taken.{Holds}
 use Rattle.image.proofs.Kept.{step_holds}
-use Rattle.automaton.specs.Tried.{TriedAs}
-use Rattle.automaton.specs.declared.Tried.{Tried}
-use Rattle.automaton.proofs.Taken.{acts_at_node, acts_on_link}
+use Rattle.automaton.specs.Tried.{TriedAs, refused_number}
+use Rattle.automaton.specs.declared.Refused.{Refused}
+use Rattle.automaton.specs.declared.Refused.TheVariants.{Unread, NoLink, Impossible}
+use Rattle.automaton.proofs.Taken.{reading_at_node, reading_on_link, tried_may}
 use Rattle.replay.specs.Taken.{next_state, Taken}
 
--- an action that can be taken: the step by its kind, in the table, possible
-pub record Acts (t : Table) (s : State) (kind x y i : ℕ) (b : Bool) : Type 0 where
-  pub named : Named t kind x i
-  pub read : reading t kind x y ≡ names (step_of kind x i b)
-  pub may : possible t s (step_of kind x i b) ≡ true
+-- no refusal has number 0
+pub refused_some : (r : Refused) → refused_number r ≡ 0 → ⊥
+refused_some Unread e = omega arith
+refused_some NoLink e = omega arith
+refused_some (Impossible x) e = omega arith
 
 -- what an action comes to, as it is read by its kind
-module _ {t : Table} {s : State} {r : Tried} (kind x y : ℕ) where
-  pub by_node : of_node kind ≡ true → TriedAs t s (read_node t kind x y) r → TriedAs t s (reading t kind x y) r
-  unfolding reading
-  by_node e tried = rw e tried
+module _ (t : Table) (s : State) (kind x y : ℕ) {r : Result step.Step Refused} where
+  pub by_node : (k : NodeKind) → node_number k ≡ kind → TriedAs t s (read_node t (node_number k) x y) r → TriedAs t s (reading t kind x y) r
+  by_node k e tried =
+      subst (λ (w : Reading). TriedAs t s w r) (sym (reading_at_node t x y k) ∙ ap (λ (n : ℕ). reading t n x y) e) tried
 
-  pub by_link : of_node kind ≡ false → of_link kind ≡ true → TriedAs t s (read_link t kind x y) r → TriedAs t s (reading t kind x y) r
-  unfolding reading
-  by_link e f tried = rw (e, f) tried
+  pub by_link : (k : LinkKind) → link_number k ≡ kind → TriedAs t s (read_link t (link_number k) x y) r → TriedAs t s (reading t kind x y) r
+  by_link k e tried =
+      subst (λ (w : Reading). TriedAs t s w r) (sym (reading_on_link t x y k) ∙ ap (λ (n : ℕ). reading t n x y) e) tried
 
-  pub by_none : of_node kind ≡ false → of_link kind ≡ false → TriedAs t s (unread 9) r → TriedAs t s (reading t kind x y) r
-  unfolding reading
-  by_none e f tried = rw (e, f) tried
+no_node : (kind : ℕ) → (kind < 1) ⊎ (5 < kind) → of_node kind ≡ false
+no_node kind (inl h) = rw (ne_eqb kind 1 (λ e. omega arith), ne_eqb kind 5 (λ e. omega arith))
+no_node kind (inr h) = rw (ne_eqb kind 1 (λ e. omega arith), ne_eqb kind 5 (λ e. omega arith))
 
-node_kind : (kind : ℕ) → of_node kind ≡ true → (1 ≤ kind) × (kind ≤ 5)
-node_kind kind e =
-    ⊎_elim (λ f. let k = eqb-true kind 1 f in (omega arith, omega arith)) (λ f. let k = eqb-true kind 5 f in (omega arith, omega arith))
-    (or_cases (eqb kind 1) _ e)
+no_link : (kind : ℕ) → (kind < 1) ⊎ (5 < kind) → of_link kind ≡ false
+no_link kind (inl h) = rw (lt-leb 2 kind (omega arith))
+no_link kind (inr h) = rw (lt-leb kind 4 (omega arith)) (and_false (leb 2 kind))
+  where
+    and_false : (b : Bool) → (b && false) ≡ false
+    and_false true = refl
+    and_false false = refl
 
-link_kind : (kind : ℕ) → of_link kind ≡ true → (1 ≤ kind) × (kind ≤ 5)
-link_kind kind e =
-    let low = leb-true 2 kind (and_left (leb 2 kind) _ e) in
-    let high = leb-true kind 4 (and_right (leb 2 kind) _ e) in
-    (omega arith, omega arith)
-
-module _ {t : Table} {s : State} {r : Tried} (kind x y : ℕ) (tried : TriedAs t s (reading t kind x y) r) (taken : r.number ≡ 0) where
-  acts_node : of_node kind ≡ true → Acts t s kind x y r.link r.back
-  acts_node e =
-      let at = acts_at_node kind x y tried taken e in
-      let k = node_kind kind e in
-      record {
-        named = record { least = k.0; most = k.1; node = λ f. at.node; link = λ f. absurd (false≢true (sym f ∙ e)) };
-        read = rw e at.read;
-        may = rw e at.may;
-      }
-
-  acts_link : of_node kind ≡ false → Acts t s kind x y r.link r.back
-  acts_link e =
-      let on = acts_on_link kind x y tried taken e in
-      let k = link_kind kind on.kinds in
-      record {
-        named = record { least = k.0; most = k.1; node = λ f. absurd (false≢true (sym e ∙ f)); link = λ f. on.link };
-        read = rw e on.read;
-        may = rw e on.may;
-      }
-
-  pub acts : Acts t s kind x y r.link r.back
-  acts = go (of_node kind) refl
-    where
-      go : (b : Bool) → of_node kind ≡ b → Acts t s kind x y r.link r.back
-      go true e = acts_node e
-      go false e = acts_link e
+-- a number that is no kind's
+pub by_none : (t : Table) (s : State) (kind x y : ℕ) → (kind < 1) ⊎ (5 < kind) → TriedAs t s (reading t kind x y) (Err Unread)
+unfolding reading
+by_none t s kind x y h = rw (no_node kind h, no_link kind h) (record { number = refl; reads = refl })
 
 -- the state after an action
 module _ (upload : List ℕ) (s : State) (kind x y : ℕ) where
@@ -89,27 +68,26 @@ module _ (upload : List ℕ) (s : State) (kind x y : ℕ) where
   next_refused h = rw (ne_eqb (refused_by (table_of upload) s (reading (table_of upload) kind x y)) 0 h)
 
 -- what is answered and left
-module _ (upload image : List ℕ) (kind x y : ℕ) {r : Tried} (lent : Lent upload image) (good : sound (table_of upload) image ≡ true) (tried : TriedAs (table_of upload) (state_of (table_of upload) image) (reading (table_of upload) kind x y) r) where
-  pub act_taken : (l : List ℕ) → r.number ≡ 0 → l ≡ image_of (table_of upload) (effect (table_of upload) (state_of (table_of upload) image) (step_of kind x r.link r.back)) → Taken upload image kind x y r.number l
-  act_taken l taken e =
+module _ (upload image : List ℕ) (kind x y : ℕ) (lent : Lent upload image) (good : sound (table_of upload) image ≡ true) where
+  pub act_taken : (l : List ℕ) (z : step.Step) → TriedAs (table_of upload) (state_of (table_of upload) image) (reading (table_of upload) kind x y) (Ok z) → l ≡ image_of (table_of upload) (effect (table_of upload) (state_of (table_of upload) image) (meant z)) → Taken upload image kind x y 0 l
+  act_taken l z tried e =
       let t = table_of upload in
       let s = state_of t image in
-      let a = acts kind x y tried taken in
-      let after : effect t s (step_of kind x r.link r.back) ≡ state_after t s (reading t kind x y) = sym (ap (state_after t s) a.read) in
+      let after : effect t s (meant z) ≡ state_after t s (reading t kind x y) = ap (state_after t s) tried.reads in
       record {
         refused = tried.number;
-        left = e ∙ ap (image_of t) after ∙ sym (ap (λ (b : Bool). cond b (image_of t (state_after t s (reading t kind x y))) image) (eq-eqb r.number 0 taken));
-        holds = subst (Holds upload l) (after ∙ sym (next_taken upload s kind x y (sym tried.number ∙ taken))) (step_holds upload image l (step_of kind x r.link r.back) lent good a.may e);
+        left = e ∙ ap (image_of t) after;
+        holds = subst (Holds upload l) (after ∙ sym (next_taken upload s kind x y (sym tried.number))) (step_holds upload image l z lent good (tried_may tried) e);
       }
 
-  pub act_refused : (r.number ≡ 0 → ⊥) → Taken upload image kind x y r.number image
-  act_refused h =
+  pub act_refused : (r : Refused) → TriedAs (table_of upload) (state_of (table_of upload) image) (reading (table_of upload) kind x y) (Err r) → Taken upload image kind x y (refused_number r) image
+  act_refused r tried =
       let t = table_of upload in
       let s = state_of t image in
       record {
         refused = tried.number;
-        left = sym (ap (λ (b : Bool). cond b (image_of t (state_after t s (reading t kind x y))) image) (ne_eqb r.number 0 h));
-        holds = record { lent = lent; is_sound = good; shows = sym (next_refused upload s kind x y (λ q. h (tried.number ∙ q))) };
+        left = sym (ap (λ (b : Bool). cond b (image_of t (state_after t s (reading t kind x y))) image) (ne_eqb (refused_number r) 0 (refused_some r)));
+        holds = record { lent = lent; is_sound = good; shows = sym (next_refused upload s kind x y (λ q. refused_some r (tried.number ∙ q))) };
       }
 
 -- an action is taken, or refused by 9, 10 or 11

@@ -13,20 +13,27 @@ use Rattle.paper.specs.Refusals.{Refusal, accepted, table_refusal, image_refusal
 use Rattle.paper.specs.Calls.{refused_with, reported, answered, left, fresh_answer, fresh_image, report_answer}
 use Rattle.table.proofs.Laws.{accepted_laws}
 use Rattle.marks.specs.Lent.{Lent}
-use Rattle.automaton.specs.Tried.{Reported}
+use Rattle.std.specs.Prelude.{Option, None, Some, unwrap_or}
+use Rattle.automaton.specs.Tried.{Told, outcome_number, Reported}
 use Rattle.automaton.specs.declared.Report.{Report}
 use Rattle.replay.proofs.Order.{answered_table, left_table, answered_image, left_image, refusal_behind, twelve}
 
+root_told : (n k : ℕ) (o : Option ℕ) → Told n 255 k o → unwrap_or o 255 ≡ k
+root_told n k None h = sym h
+root_told n k (Some i) h = h.1
+
 -- a report, behind a refusal, its place and the steps taken
-pub told : {t : Table} {s : State} {r : Report} (number place steps : ℕ) → Reported t s r → record { refusal = number; place = place; steps = steps; outcome = r.outcome; root = r.root; waiting = r.waiting } ≡ reported (record { number = number; place = place }) steps t s
-told number place steps r j =
-    record {
+pub told : {t : Table} {s : State} {r : Report} (number place steps : ℕ) (outcome root : ℕ) → outcome ≡ outcome_number r.outcome → root ≡ unwrap_or r.root 255 → Reported t s r → record { refusal = number; place = place; steps = steps; outcome = outcome; root = root; waiting = r.waiting } ≡ reported (record { number = number; place = place }) steps t s
+told {t} {s} {r} number place steps outcome root e f w =
+    let o = e ∙ w.outcome in
+    let x = f ∙ root_told t.nodes _ r.root w.root in
+    λ j. record {
       refusal = number;
       place = place;
       steps = steps;
-      outcome = r.outcome j;
-      root = r.root j;
-      waiting = r.waiting j;
+      outcome = o j;
+      root = x j;
+      waiting = w.waiting j;
     }
 
 both_true : (a b : Bool) → (a && b) ≡ true → (a ≡ true) × (b ≡ true)

@@ -20,10 +20,9 @@ use Rattle.replay.specs.Taken.{Taken}
 use Rattle.replay.specs.Replaying.{came_to, ReplayedTo}
 use Rattle.replay.specs.declared.Stopped.{Stopped}
 use Rattle.automaton.specs.declared.Refused.{Refused}
-use Rattle.automaton.specs.declared.Refused.TheVariants.{Unread, NoLink, Impossible}
 use Rattle.automaton.specs.Tried.{refused_number}
 use Rattle.std.specs.Prelude.{Result, Ok, Err}
-use Rattle.replay.proofs.Acted.{next_taken, next_refused}
+use Rattle.replay.proofs.Acted.{next_taken, next_refused, refused_some}
 use Rattle.replay.proofs.Folds.{replay_stops, replay_goes_on}
 
 -- after i actions: the replay is what the actions from i on come to, from the state that the image shows
@@ -62,12 +61,6 @@ unfolding replay_from
 ends upload image a e h =
     let none : actions_of upload - a ≡ 0 = omega arith in
     comes_to upload image (Ok a) h.lent h.is_sound (h.left ∙ ap (replay_from upload (state_of (table_of upload) image) a) none)
-
--- no refusal has number 0
-pub refused_some : (r : Refused) → refused_number r ≡ 0 → ⊥
-refused_some Unread e = omega arith
-refused_some NoLink e = omega arith
-refused_some (Impossible x) e = omega arith
 
 module _ (upload image after : List ℕ) (i number : ℕ) (h : Halfway upload image i) (below : i < actions_of upload) (w : Taken upload image (byte_at upload (action_at upload i)) (byte_at upload (action_at upload i + 1)) (byte_at upload (action_at upload i + 2)) number after) where
   one_more : replayed upload ≡ replay_from upload (state_of (table_of upload) image) i (suc (actions_of upload - suc i))

@@ -4,7 +4,7 @@
 
 mod refusal;
 
-ghost use Rattle.std.specs.Prelude.{◌≡◌, true, is_ok, IfOk, OnErr, IfErr, ◌&&◌, ◌+◌, ◌*◌, ◌<◌, ◌≤◌, ltb, length};
+ghost use Rattle.std.specs.Prelude.{◌≡◌, is_ok, IfOk, IfErr, ◌&&◌, ◌+◌, ◌*◌, ◌<◌, ◌≤◌, ltb, length};
 ghost use Rattle.paper.specs.Upload.{byte_at, actions_of, action_at};
 ghost use Rattle.paper.specs.Table.{table_of};
 ghost use Rattle.paper.specs.State.{fresh};
@@ -15,6 +15,7 @@ ghost use Rattle.paper.specs.Runner.{longest};
 ghost use Rattle.cabling.specs.Cables.{cables};
 ghost use Rattle.marks.specs.Shown.{table, shown};
 ghost use Rattle.image.specs.Parts.{Blank};
+ghost use Rattle.image.specs.Taken.{SoundImage};
 ghost use Rattle.automaton.specs.Tried.{TriedAs};
 ghost use Rattle.replay.specs.Refused.{answer_of, number_of};
 ghost use Rattle.replay.specs.Taken.{Taken};
@@ -72,7 +73,7 @@ fn reporting(view: &View, number: u8, place: u16, steps: u16) -> Answer
         refusal: number,
         place,
         steps,
-        outcome: report.outcome as u8,
+        outcome: u8::from(report.outcome),
         root: report.root.unwrap_or(255),
         waiting: report.waiting,
     }
@@ -162,7 +163,7 @@ fn tried(view: &View, kind: u8, x: u8, y: u8) -> Result<Step, Refused>
 
 // Takes an action if it can be taken.
 fn act(cabling: &Cabling, image: &mut [u8], kind: u8, x: u8, y: u8) -> Result<(), Refused>
-    requires { (length image.old ≡ image_length (cables cabling.now)) × (sound (cables cabling.now) image.old ≡ true) }
+    requires { SoundImage (cables cabling.now) image.old }
     ensures { Taken cabling.now.upload.bytes.now image.old kind x y (number_of result) image.new }
 {
     let view = View {
@@ -211,7 +212,8 @@ struct Stopped {
 
 // Tries action i of an upload on a lent image.
 fn act_at(cabling: &Cabling, image: &mut [u8], i: usize) -> Result<(), Refused>
-    requires { (length image.old ≡ image_length (cables cabling.now)) × (sound (cables cabling.now) image.old ≡ true) × (i < actions_of cabling.now.upload.bytes.now) }
+    requires image_is_sound { SoundImage (cables cabling.now) image.old }
+    requires there { i < actions_of cabling.now.upload.bytes.now }
     ensures { Taken cabling.now.upload.bytes.now image.old (byte_at cabling.now.upload.bytes.now (action_at cabling.now.upload.bytes.now i)) (byte_at cabling.now.upload.bytes.now (action_at cabling.now.upload.bytes.now i + 1)) (byte_at cabling.now.upload.bytes.now (action_at cabling.now.upload.bytes.now i + 2)) (number_of result) image.new }
 {
     let bytes = cabling.upload.bytes;
@@ -271,7 +273,7 @@ pub fn replay(upload: &[u8]) -> Answer
 
 // Takes the first listed step, if there is one.
 fn take_first(cabling: &Cabling, image: &mut [u8]) -> bool
-    requires { (length image.old ≡ image_length (cables cabling.now)) × (sound (cables cabling.now) image.old ≡ true) }
+    requires { SoundImage (cables cabling.now) image.old }
     ensures { Advanced cabling.now.upload.bytes.now image.old result image.new }
 {
     let view = View {
