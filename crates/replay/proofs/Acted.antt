@@ -77,7 +77,7 @@ module _ (upload image : List ℕ) (kind x y : ℕ) (lent : Lent upload image) (
       record {
         refused = tried.number;
         left = e ∙ ap (image_of t) after;
-        holds = subst (Holds upload l) (after ∙ sym (next_taken upload s kind x y (sym tried.number))) (step_holds upload image l z lent good (tried_may tried) e);
+        holds = subst (Holds upload l) (after ∙ sym (next_taken upload s kind x y (sym tried.number))) (step_holds upload image l (meant z) lent good (tried_may tried) e);
       }
 
   pub act_refused : (r : Refused) → TriedAs (table_of upload) (state_of (table_of upload) image) (reading (table_of upload) kind x y) (Err r) → Taken upload image kind x y (refused_number r) image

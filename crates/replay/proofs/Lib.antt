@@ -2,6 +2,7 @@ pub mod Order
 pub mod Folds
 pub mod Checked
 pub mod Answers
+pub mod Handed
 pub mod Acted
 pub mod Stepped
 pub mod Replaying

@@ -25,6 +25,6 @@ abbrev pub Refuses : Refusal → Answer → Type 0
 Refuses r a = a ≡ refused_with (given_by r)
 
 -- the number by which an action is refused, 0 where it was taken
-abbrev pub number_of {ℓ} : {X : Type ℓ} → Result X automaton.Refused → ℕ
+abbrev pub number_of : {X : Type 0} → Result X automaton.Refused → ℕ
 number_of (Ok x) = 0
 number_of (Err r) = refused_number r

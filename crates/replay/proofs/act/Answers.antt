@@ -1,10 +1,22 @@
--- `act` meets its contract, by the kind: at a node, on a link, or refused by 9.
-use native.Mathlib.Omega.{arith}
-use Rattle.automaton.proofs.Named.{tried_not}
-use Rattle.replay.proofs.Acted.{by_none, act_refused}
+use Rattle.std.proofs.Common.{ℕ, subst}
+use Rattle.image.proofs.Kept.{possible_in_table}
+use Rattle.automaton.proofs.Taken.{tried_may}
+use Rattle.replay.specs.Taken.{Taken}
+use Rattle.replay.proofs.Acted.{act_taken, act_refused}
+use Rattle.replay.proofs.Handed.{refused_on, lent_with}
 use Rattle.replay.proofs.act.Goals as goal
 
-pub returns-else-kind-2 : goal.returns-else-kind-2
-returns-else-kind-2 c =
+pub returns-in_err-step : goal.returns-in_err-step
+returns-in_err-step c =
     let a = c.args in
-    act_refused a.upload.now a.image.now a.kind a.x a.y c.requires.0 c.requires.1 (by_none a.kind a.x a.y c.if-kind.false c.if-kind-2.false (tried_not 9)) (λ e. absurd (omega arith))
+    let up = a.cabling.now.upload.bytes.now in
+    subst (λ (n : ℕ). Taken up a.image.now a.kind a.x a.y n a.image.now) (refused_on _ _ c.from_residual.ensures.1)
+    (act_refused up a.image.now a.kind a.x a.y (lent_with a.cabling.now a.image.now c.requires.fits) c.requires.is_sound _ c.in_err-step.ensures)
+
+pub take-requires-clause-in_table : goal.take-requires-clause-in_table
+take-requires-clause-in_table c = possible_in_table _ _ c.in_ok-step.step (tried_may c.in_ok-step.ensures)
+
+pub returns : goal.returns
+returns c =
+    let a = c.args in
+    act_taken a.cabling.now.upload.bytes.now a.image.now a.kind a.x a.y (lent_with a.cabling.now a.image.now c.requires.fits) c.requires.is_sound _ c.in_ok-step.step c.in_ok-step.ensures c.take.ensures
