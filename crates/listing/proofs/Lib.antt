@@ -1,5 +1,6 @@
 pub mod Written
 pub mod Linked
+pub mod Numbered
 pub mod Entries
 pub mod Resting
 pub mod Unique

@@ -5,7 +5,7 @@ use mathlib.Core.List.{[]}
 use mathlib.Core.Path.{◌≡◌, refl, ap, ◌∙◌}
 use mathlib.Core.Logic.{◌⊎◌, inl, inr}
 use native.Mathlib.Omega.{arith}
-use borrow.Author.Tests.{eqb-true, ne_eqb, not-true}
+use borrow.Author.Tests.{eqb-true, ne_eqb}
 use lib.Dec.{eqb, ltb}
 use Rattle.counting.proofs.Booleans.{and_left, and_right, or_cases, clash}
 use Rattle.paper.specs.Table.{Table, source}
@@ -45,10 +45,5 @@ module _ (t : Table) (s : State) (x : ℕ) (rests : s.contending x ≡ false) wh
   no_entry : (y : ℕ) → entry t s 4 x y ≡ []
   no_entry y = rw (ne_eqb (refused_by t s (reading t 4 x y)) 0 (refused_from y))
 
-  none_of_four : entries_at t s 4 x ≡ []
+  pub none_of_four : entries_at t s 4 x ≡ []
   none_of_four = rw (joined_none t.nodes (entry t s 4 x) (λ y h. no_entry y), no_entry 255)
-
-pub none_from : (t : Table) (s : State) (kind x : ℕ) → eqb kind 4 && not (s.contending x) ≡ true → entries_at t s kind x ≡ []
-none_from t s kind x h =
-    let four = eqb-true kind 4 (and_left (eqb kind 4) _ h) in
-    rw four (none_of_four t s x (not-true (s.contending x) (and_right (eqb kind 4) _ h)))
