@@ -4,6 +4,7 @@ use mathlib.Core.Bool.{Bool, true, false, cond, and-false}
 use mathlib.Core.List.{List, [], ◌∷◌, append-nil}
 use mathlib.Core.Path.{◌≡◌, refl, ◌∙◌}
 use native.Mathlib.Omega.{arith}
+use Rattle.std.proofs.lemmas.Bool.Decides.{nat_tests}
 use borrow.Author.Tests.{lt-ltb, le-ltb, le-leb, eqb-false, ne_eqb}
 use lib.Dec.{ltb, eqb}
 use Rattle.std.specs.Prelude.{Option, Some, None, unwrap_or}
@@ -34,12 +35,7 @@ joined_none (suc n) f h =
 module _ (t : Table) (s : State) where
   taken_if : (g : Bool) (x : Step) (k : ℕ) (l : List ℕ) →
       cond (eqb (refused_by t s (cond g (names x) (unread (suc k)))) 0) l [] ≡ cond (cond g (possible t s x) false) l []
-  taken_if true x k l = go (possible t s x)
-    where
-      go : (p : Bool) → cond (eqb (cond p 0 11) 0) l [] ≡ cond p l []
-      go true = refl
-      go false = refl
-  taken_if false x k l = rw (ne_eqb (suc k) 0 (λ z. omega arith))
+  taken_if g x k l = grind (arith, nat_tests)
 
   module _ (kind x : ℕ) (small : t.nodes ≤ 63) (below : x < t.nodes) where
     pub node_entries : of_node kind ≡ true → entries_at t s kind x ≡ cond (possible t s (node_step kind x)) (kind ∷ x ∷ 255 ∷ []) []

@@ -1,6 +1,5 @@
 pub mod Written
 pub mod Linked
-pub mod Numbered
 pub mod Entries
 pub mod Resting
 pub mod Unique

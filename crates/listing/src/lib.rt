@@ -6,7 +6,7 @@ ghost use Rattle.std.specs.Prelude.{◌≡◌, ◌+◌, ◌*◌, ◌<◌, ◌≤
 ghost use Rattle.std.specs.Option.{ForSome};
 ghost use Rattle.paper.specs.Actions.{entries_at, entries_of, listed, direction_from};
 ghost use Rattle.paper.specs.Calls.{over};
-ghost use Rattle.upload.specs.Kinds.{number, node_number, link_number};
+ghost use Rattle.upload.specs.Kinds.{node_number, link_number};
 ghost use Rattle.cabling.specs.Cables.{cables};
 ghost use Rattle.marks.specs.Shown.{table, shown};
 ghost use Rattle.listing.specs.Wrote.{Wrote};
@@ -16,7 +16,7 @@ ghost use Rattle.listing.specs.Links.{noted, Noted, may_list};
 use cabling::Cabling;
 use marks::View;
 use upload::Direction;
-use upload::step::{Kind, LinkKind, NodeKind};
+use upload::step::{LinkKind, NodeKind};
 
 // The entries of a list, in a lent buffer as far as it has room, and how many they are.
 #[derive(Drop)]
@@ -34,24 +34,14 @@ fn put(out: &mut [u8], at: usize, byte: u8)
     }
 }
 
-// The number of a kind.
-fn number(kind: Kind) -> u8
-    ensures { result ≡ number kind }
-{
-    match kind {
-        Kind::Node(kind) => kind as u8,
-        Kind::Link(kind) => kind as u8,
-    }
-}
-
 impl Writer<'_> {
     // Writes one more entry.
-    fn push(&mut self, kind: Kind, x: u8, y: u8)
+    fn push(&mut self, kind: u8, x: u8, y: u8)
         requires { self.old.count < 100000 }
-        ensures { Appends self.old (number kind ∷ x ∷ y ∷ []) 1 self.new }
+        ensures { Appends self.old (kind ∷ x ∷ y ∷ []) 1 self.new }
     {
         let at = 3 * self.count;
-        put(self.out, at, number(kind));
+        put(self.out, at, kind);
         put(self.out, at + 1, x);
         put(self.out, at + 2, y);
         self.count += 1;
@@ -65,7 +55,7 @@ fn node_entries(view: &View, kind: NodeKind, writer: &mut Writer)
 {
     for x in 0..view.cabling.nodes() {
         if automaton::node_possible(view, kind, x) {
-            writer.push(Kind::Node(kind), x as u8, 255);
+            writer.push(kind as u8, x as u8, 255);
         }
     }
 }
@@ -131,7 +121,7 @@ fn link_entries_from(view: &View, kind: LinkKind, x: usize, writer: &mut Writer)
     let links = links_from(&view.cabling, x);
     for y in 0..view.cabling.nodes() {
         if may_list(view, kind, links[y], x) {
-            writer.push(Kind::Link(kind), x as u8, y as u8);
+            writer.push(kind as u8, x as u8, y as u8);
         }
     }
 }

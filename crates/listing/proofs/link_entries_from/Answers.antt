@@ -1,9 +1,9 @@
+use borrow.Author.Rules.{rules}
 use mathlib.Core.Path.{◌≡◌, sym}
 use native.Mathlib.Omega.{arith}
 use Rattle.upload.specs.Kinds.{link_number}
 use Rattle.marks.specs.Shown.{table, shown}
 use Rattle.marks.proofs.Viewed.{lent}
-use Rattle.listing.proofs.Numbered.{not_at_node, on_link}
 use Rattle.listing.proofs.Linked.{noted_all}
 use Rattle.listing.proofs.Entries.{link_entries, link_entry}
 use Rattle.listing.proofs.Written.{appends_start, appends_next, appends_same, appends_as, appends_end, appends_most}
@@ -19,9 +19,9 @@ loop-y-preserved c =
     let view = c.args.view.now in
     let kind = c.args.kind in
     let noted = c.links_from-links.ensures in
-    let at_y = link_entry (table view) (shown view) (link_number kind) c.args.x (lent view).table.nodes_fit c.requires.0 (not_at_node kind) (on_link kind) now.y _ (omega arith) (noted_all noted now.y (omega arith)) (noted.links now.y (omega arith)) in
+    let at_y = link_entry (table view) (shown view) (link_number kind) c.args.x (lent view).table.nodes_fit c.requires.0 (search rules) (search rules) now.y _ (omega arith) (noted_all noted now.y (omega arith)) (noted.links now.y (omega arith)) in
     elim c.if-may_list.branch [
-      then-may_list w ↦ rw w.writer-is (appends_next 1 now.y _ now.invariant (appends_as (rw (at_y, ← w.if-may_list.ensures)) w.push.ensures))
+      then-may_list w ↦ rw w.writer-is (appends_next 1 now.y _ now.invariant (appends_as (rw (at_y, ← w.if-may_list.ensures) (search rules)) w.push.ensures))
     | else-may_list w ↦ rw w.writer-is (appends_same 1 now.y _ now.invariant (rw (at_y, ← w.if-may_list.ensures))) ]
 
 pub returns : goal.returns
@@ -30,5 +30,5 @@ returns c =
     let view = c.args.view.now in
     let kind = c.args.kind in
     let all : now.y ≡ (table view).nodes = omega arith in
-    appends_as (sym (link_entries (table view) (shown view) (link_number kind) c.args.x (lent view).table.nodes_fit c.requires.0 (not_at_node kind) (on_link kind)))
+    appends_as (sym (link_entries (table view) (shown view) (link_number kind) c.args.x (lent view).table.nodes_fit c.requires.0 (search rules) (search rules)))
     (appends_most 63 (omega (arith, (lent view).table.nodes_fit)) (appends_end 1 now.y _ _ all now.invariant))
