@@ -4,4 +4,5 @@ pub mod Pairs
 pub mod Sums
 pub mod Tests
 pub mod Lists
+pub mod Ranges
 pub mod Directions
