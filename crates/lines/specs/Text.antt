@@ -1,18 +1,15 @@
--- What a function leaves that writes bytes into a lent buffer from a place on.
-use Rattle.std.specs.Prelude.{ℕ, zero, suc, ◌+◌, ◌/◌, ◌<◌, ◌≡◌, List, ◌∷◌, ◌++◌, length}
+-- What a method of a text leaves: bytes written into its lent buffer from its place on.
+use Rattle.std.specs.Prelude.{ℕ, ◌+◌, ◌/◌, ◌%◌, ◌≡◌, List, [], ◌∷◌, cond, leb, length}
 use Rattle.std.proofs.lemmas.List.Edits.{sets}
-use Rattle.paper.specs.Lines.{space, decimal}
+use Rattle.paper.specs.Lines.{digit}
+use Rattle.lines.specs.declared.Text.{Text}
 
--- bytes written from a place on, as far as there is room
-pub record Wrote (before : List ℕ) (at : ℕ) (bytes after : List ℕ) (next : ℕ) : Type 0 where
-  pub left : after ≡ sets before at bytes
-  pub place : next ≡ at + length bytes
+-- bytes written, as far as there is room, and the place behind them
+pub record Writes (before : Text) (bytes : List ℕ) (after : Text) : Type 0 where
+  pub left : after.out.now ≡ sets before.out.now before.at bytes
+  pub place : after.at ≡ before.at + length bytes
+  pub same_buffer : after.out.ghost_name ≡ before.out.ghost_name
 
--- a number of at most so many digits and one
-abbrev pub Below : ℕ → ℕ → Type 0
-Below zero k = k < 10
-Below (suc more) k = Below more (k / 10)
-
--- three numbers in decimal, a space before each
-abbrev pub three : ℕ → ℕ → ℕ → List ℕ
-three x y z = (space ∷ decimal x) ++ (space ∷ decimal y) ++ (space ∷ decimal z)
+-- the digit of a number at a power of ten, where the number reaches it
+abbrev pub reached_digit : ℕ → ℕ → List ℕ
+reached_digit power k = cond (leb power k) (digit (k / power % 10) ∷ []) []
