@@ -4,5 +4,6 @@ pub mod Named
 pub mod Taken
 pub mod Moves
 pub mod Found
+pub mod Counted
 pub mod Meant
 pub mod Unique

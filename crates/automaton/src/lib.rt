@@ -233,31 +233,33 @@ fn is_moving(view: &View) -> bool
 }
 
 // How many nodes are root.
-fn root_count(view: &View) -> usize
+fn root_count(view: &View) -> u8
     ensures { result ≡ roots (table view.now) (shown view.now) }
 {
-    (0..view.cabling.nodes()).filter(|&x| view.root(x)).count()
+    (0..view.cabling.nodes())
+        .map(|x| u8::from(view.root(x)))
+        .sum()
 }
 
 // How many nodes wait.
-fn waiting_count(view: &View) -> usize
-    ensures { (result ≡ waiting_count (table view.now) (shown view.now)) × (result ≤ 63) }
+fn waiting_count(view: &View) -> u8
+    ensures { result ≡ waiting_count (table view.now) (shown view.now) }
 {
     (0..view.cabling.nodes())
-        .filter(|&x| view.waiting(x))
-        .count()
+        .map(|x| u8::from(view.waiting(x)))
+        .sum()
 }
 
 // The lowest root node.
 fn lowest_root(view: &View) -> Option<u8>
     ensures { Told (table view.now).nodes 255 (root_of (table view.now) (shown view.now)) result }
 {
-    let n = view.cabling.nodes() as u8;
-    (0..n).find(|&x| view.root(usize::from(x)))
+    let x = (0..view.cabling.nodes()).find(|&x| view.root(x))?;
+    Some(x as u8)
 }
 
 // The outcome where no step is possible.
-fn outcome_at_rest(n: usize, m: usize, root_nodes: usize, waiting: usize) -> Outcome
+fn outcome_at_rest(n: usize, m: usize, root_nodes: u8, waiting: u8) -> Outcome
     ensures { outcome_number result ≡ outcome_at_rest n m root_nodes waiting }
 {
     match root_nodes {
@@ -268,7 +270,7 @@ fn outcome_at_rest(n: usize, m: usize, root_nodes: usize, waiting: usize) -> Out
 }
 
 // The outcome of a state with so many nodes that wait.
-fn outcome_of(view: &View, waiting: usize) -> Outcome
+fn outcome_of(view: &View, waiting: u8) -> Outcome
     requires { waiting ≡ waiting_count (table view.now) (shown view.now) }
     ensures { outcome_number result ≡ outcome_of (table view.now) (shown view.now) }
 {
@@ -292,6 +294,6 @@ pub fn report_of(view: &View) -> Report
     Report {
         outcome: outcome_of(view, waiting),
         root: lowest_root(view),
-        waiting: waiting as u8,
+        waiting,
     }
 }

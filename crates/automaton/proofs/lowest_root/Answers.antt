@@ -1,12 +1,17 @@
 use Rattle.std.proofs.Common.{rules, tests}
-use Rattle.std.proofs.lemmas.Iterator.{YieldsList-from_range}
-use Rattle.std.proofs.lemmas.Iterator.Search.{find_from_yields_List}
+use Rattle.std.proofs.lemmas.Option.{MatchOption-at_none, MatchOption-at_some}
 use Rattle.marks.specs.Shown.{table, shown}
-use Rattle.automaton.proofs.Found.{told_least}
+use Rattle.automaton.proofs.Found.{told_by_find}
 use Rattle.automaton.proofs.lowest_root.Goals as goal
+
+pub returns-in_err-x : goal.returns-in_err-x
+returns-in_err-x c =
+    let v = c.args.view.now in
+    let told = told_by_find _ (table v).nodes 255 (shown v).root c.find.result (search rules) c.find.ensures.ran (λ x b q k. search (rules, tests)) in
+    rw c.from_residual.ensures (MatchOption-at_none _ _ c.in_err-x.was told)
 
 pub returns : goal.returns
 returns c =
-    let marked = (shown c.args.view.now).root in
-    let n = (table c.args.view.now).nodes in
-    told_least n 255 marked c.find.result (find_from_yields_List marked _ _ c.find.result c.find.ensures.ran (YieldsList-from_range 0 n n (search rules) (search rules)) (λ x b q k. search (rules, tests)))
+    let v = c.args.view.now in
+    let told = told_by_find _ (table v).nodes 255 (shown v).root c.find.result (search rules) c.find.ensures.ran (λ x b q k. search (rules, tests)) in
+    MatchOption-at_some _ _ _ c.in_ok-x.was told

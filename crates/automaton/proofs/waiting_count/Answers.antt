@@ -1,14 +1,17 @@
-use Rattle.std.proofs.Common.{rules, tests, arith, ◌∙◌}
-use Rattle.std.proofs.lemmas.Iterator.{YieldsList-from_range}
-use Rattle.std.proofs.lemmas.Iterator.Consumers.{count_from_yields_List, YieldsList-from_filter}
-use Rattle.counting.proofs.Ranges.{filter_is_count}
+use Rattle.std.proofs.Common.{rules, tests, arith}
 use Rattle.counting.proofs.Sums.{count_below}
 use Rattle.marks.specs.Shown.{table, shown}
+use Rattle.automaton.proofs.Counted.{count_fits, count_by_sum}
 use Rattle.automaton.proofs.waiting_count.Goals as goal
+
+pub sum-requires-clause-fits : goal.sum-requires-clause-fits
+sum-requires-clause-fits c =
+    let v = c.args.view.now in
+    let n = (table v).nodes in
+    let marked = (shown v).waiting in
+    count_fits c.map.result n marked (search rules) c.map.ensures.closure (λ x r q k. search (rules, tests)) _ (omega (arith, count_below n marked, v.cabling.passes.nodes_fit))
 
 pub returns : goal.returns
 returns c =
-    let marked = (shown c.args.view.now).waiting in
-    let n = (table c.args.view.now).nodes in
-    let same = count_from_yields_List c.filter.result _ c.count.ensures.ran (YieldsList-from_filter _ marked (YieldsList-from_range 0 n n (search rules) (search rules)) c.filter.ensures.closure (λ x b q k. search (rules, tests))) ∙ filter_is_count marked n in
-    (same, omega (arith, same, count_below n marked, c.args.view.now.cabling.passes.nodes_fit))
+    let v = c.args.view.now in
+    count_by_sum c.map.result (table v).nodes (shown v).waiting (search rules) c.map.ensures.closure (λ x r q k. search (rules, tests)) _ c.sum.ensures.ran
