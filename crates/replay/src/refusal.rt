@@ -34,13 +34,6 @@ impl From<Refusal> for Answer {
             Refusal::Image => (12, 0),
             Refusal::Room => (13, 0),
         };
-        Answer {
-            refusal: number,
-            place,
-            steps: 0,
-            outcome: 0,
-            root: 255,
-            waiting: 0,
-        }
+        Answer::refused(number, place)
     }
 }
