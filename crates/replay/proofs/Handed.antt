@@ -7,7 +7,8 @@ use Rattle.paper.specs.Table.{table_of}
 use Rattle.paper.specs.Image.{image_length, fits, sound, state_of}
 use Rattle.paper.specs.Refusals as paper
 use Rattle.paper.specs.Refusals.{table_refusal}
-use Rattle.paper.specs.Calls.{refused_with, reported}
+use Rattle.paper.specs.Actions.{listed}
+use Rattle.paper.specs.Calls.{refused_with, reported, list_of_image}
 use Rattle.cabling.specs.declared.Cabling.{Cabling}
 use Rattle.cabling.specs.Cables.{cables}
 use Rattle.cabling.proofs.Passed.{accepted}
@@ -73,3 +74,8 @@ module _ {u : Bor (List ℕ)} (k : Cabling) (of : k.upload.bytes ≡ u) where
     shows r steps j =
         let image = ap (λ (b : Bor (List ℕ)). b.now) seen.1 in
         reported r steps (table_of (viewed j)) (state_of (table_of (viewed j)) (image j))
+
+    pub lists : listed (table v) (shown v) ≡ list_of_image u.now i.now
+    lists j =
+        let image = ap (λ (b : Bor (List ℕ)). b.now) seen.1 in
+        listed (table_of (viewed j)) (state_of (table_of (viewed j)) (image j))
