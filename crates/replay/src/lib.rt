@@ -281,8 +281,8 @@ fn take_first(cabling: &Cabling, image: &mut [u8]) -> bool
         image: &*image,
     };
     match first::first_listed(&view) {
-        Some(step) => {
-            image::take(cabling, image, step);
+        Some(first) => {
+            image::take(cabling, image, first);
             true
         }
         None => false,
