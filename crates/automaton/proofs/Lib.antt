@@ -3,4 +3,7 @@ pub mod More
 pub mod Named
 pub mod Taken
 pub mod Moves
+pub mod Found
+pub mod Counted
+pub mod Meant
 pub mod Unique

@@ -9,6 +9,14 @@ use Rattle.counting.proofs.Booleans.{and_left, and_right}
 use Rattle.paper.specs.Table.{Table}
 use Rattle.paper.specs.State.{State}
 use Rattle.paper.specs.Steps.{Step, possible}
+use Rattle.upload.specs.Kinds.{node_number, link_number, meant}
+use Rattle.upload.specs.declared.step.NodeKind.{NodeKind}
+use Rattle.upload.specs.declared.step.NodeKind.TheVariants.{ChildrenKnown, BecomeRoot}
+use Rattle.upload.specs.declared.step.LinkKind.{LinkKind}
+use Rattle.upload.specs.declared.step.LinkKind.TheVariants.{AddChild, Acknowledge, Resolve}
+use Rattle.upload.specs.declared.step.Step as step
+use Rattle.automaton.specs.Tried.{TriedAs}
+use Rattle.std.proofs.Common.{Ok}
 use Rattle.paper.specs.Actions.{Reading, names, unread, link_between, direction_from, node_step, link_step, read_node, read_link, of_node, of_link, reading, refused_by}
 
 -- an action of kind 1 or 5 that can be taken
@@ -81,3 +89,20 @@ module _ (t : Table) (s : State) where
             ∙ ap (λ (g : Bool). cond g (names step) (unread 10)) found.0;
         may = allowed step found.1;
       }
+
+-- an action of a kind at a node, and one of a kind on a direction
+module _ (t : Table) (x y : ℕ) where
+  pub reading_at_node : (k : NodeKind) → reading t (node_number k) x y ≡ read_node t (node_number k) x y
+  unfolding reading
+  reading_at_node ChildrenKnown = refl
+  reading_at_node BecomeRoot = refl
+
+  pub reading_on_link : (k : LinkKind) → reading t (link_number k) x y ≡ read_link t (link_number k) x y
+  unfolding reading
+  reading_on_link AddChild = refl
+  reading_on_link Acknowledge = refl
+  reading_on_link Resolve = refl
+
+-- what a caller learns where an action can be taken
+pub tried_may : {t : Table} {s : State} {read : Reading} {x : step.Step} → TriedAs t s read (Ok x) → possible t s (meant x) ≡ true
+tried_may {t} {s} {x} tried = allowed t s (meant x) (ap (refused_by t s) tried.reads ∙ sym tried.number)

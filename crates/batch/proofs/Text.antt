@@ -1,19 +1,17 @@
--- What the program prints of a batch: one line where the header is refused, else the lines of the first c answers.
-use Prim.Native.Nat.{ℕ, zero, suc, ◌+◌, ◌-◌, ◌≤◌}
+-- What the program prints of a batch: one line where the header is refused, else the lines of the c answers.
+use Prim.Native.Nat.{ℕ, ◌≤◌}
 use mathlib.Core.Bool.{true, false}
-use mathlib.Core.Path.{◌≡◌, ◌∙◌}
-use mathlib.Core.List.{List, [], ◌∷◌}
+use mathlib.Core.Path.{◌≡◌}
+use mathlib.Core.List.{List}
 use native.Mathlib.Omega.{arith}
-use native.Mathlib.Nat.{add-zero, add-suc}
 use lib.ListN.{take}
-use lib.Seq.{take_all, take-append-le}
+use lib.Seq.{take_all}
 use Rattle.counting.specs.Count.{list_of}
 use Rattle.paper.specs.declared.Answer.{Answer}
 use Rattle.paper.specs.Batch.{count_of, header_wrong, entry_answer, answers_of}
 use Rattle.paper.specs.Lines.{refused_line, lines_from, text_of, lines_answer, lines_buffer}
 use Rattle.lines.specs.Output.{text_answer, text_buffer, Output}
-use Rattle.lines.proofs.Ordered.{length_list_of}
-use Rattle.batch.proofs.Tests.{header_right}
+use Rattle.counting.proofs.Lists.{length_list_of}
 
 -- the text, answered and left in the buffer as document 01 says
 abbrev pub Printed : List ℕ → List ℕ → List ℕ → Answer → Type 0
@@ -27,21 +25,10 @@ pub text_refused : (batch : List ℕ) → header_wrong batch ≡ true → text_o
 unfolding text_of
 text_refused batch e = rw e
 
-first_of : (n more : ℕ) (f : ℕ → Answer) → take n (list_of (n + more) f) ≡ list_of n f
-unfolding list_of
-first_of n zero f = rw (add-zero n) (take_all n (list_of n f) (omega (arith, length_list_of n f)))
-first_of n (suc more) f =
-    rw (add-suc n more)
-    (take-append-le n (list_of (n + more) f) (f (n + more) ∷ []) (omega (arith, length_list_of (n + more) f))
-    ∙ first_of n more f)
+-- no more than 64 answers, as many as are printed
+pub all_shown : (n : ℕ) (f : ℕ → Answer) → n ≤ 64 → take 64 (list_of n f) ≡ list_of n f
+all_shown n f h = take_all 64 (list_of n f) (omega (arith, length_list_of n f))
 
--- the first n of m or fewer
-pub first_answers : (n m : ℕ) (f : ℕ → Answer) → n ≤ m → take n (list_of m f) ≡ list_of n f
-first_answers n m f h =
-    let e : n + (m - n) ≡ m = omega arith in
-    rw e at (first_of n (m - n) f)
-
-pub text_lines : (batch : List ℕ) → header_wrong batch ≡ false → text_of batch ≡ lines_from 0 (take (count_of batch) (list_of 64 (entry_answer batch)))
+pub text_lines : (batch : List ℕ) {n : ℕ} → header_wrong batch ≡ false → n ≡ count_of batch → text_of batch ≡ lines_from 0 (list_of n (entry_answer batch))
 unfolding text_of answers_of
-text_lines batch e =
-    rw (e, first_answers (count_of batch) 64 (entry_answer batch) (header_right batch e).most)
+text_lines batch {n} e c = rw (e, ← c)

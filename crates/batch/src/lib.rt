@@ -2,19 +2,21 @@
 
 #![tactic(auto)]
 
-ghost use Rattle.std.specs.Prelude.{◌≡◌, false, ◌+◌, ◌*◌, ◌<◌, ◌≤◌, ◌^◌, length};
-ghost use Rattle.paper.specs.Upload.{two_at, four_at};
+ghost use Rattle.std.specs.Prelude.{◌≡◌, false, true, ◌+◌, ◌*◌, ◌<◌, ◌≤◌, ◌^◌, length, take, MatchResult};
+ghost use Rattle.paper.specs.Upload.{four_at};
 ghost use Rattle.paper.specs.Batch.{count_of, offset_of, length_of, header_wrong, span_outside, part_of, entry_answer};
-ghost use Rattle.paper.specs.Lines.{lines_answer, lines_buffer};
-ghost use Rattle.paper.specs.Calls.{refused_with};
+ghost use Rattle.paper.specs.Lines.{lines_from, lines_answer, lines_buffer};
 ghost use Rattle.counting.specs.Count.{list_of};
+ghost use Rattle.lines.specs.Output.{Output};
+ghost use Rattle.batch.specs.Refusal.{RefusedBy};
 
-// Two bytes as a number, high byte first.
-fn two(batch: &[u8], at: usize) -> usize
-    requires { at + 2 ≤ length batch.now }
-    ensures { (result ≡ two_at batch.now at) × (result < 2 ^ 16) }
-{
-    256 * upload::byte(batch, at) + upload::byte(batch, at + 1)
+use paper::Answer;
+
+// Why an entry has no part: the header is refused, or its span is outside.
+#[derive(Clone, Copy)]
+enum Refusal {
+    Header = 1,
+    Span = 2,
 }
 
 // Four bytes as a number, high byte first.
@@ -22,15 +24,7 @@ fn four(batch: &[u8], at: usize) -> usize
     requires { at + 4 ≤ length batch.now }
     ensures { (result ≡ four_at batch.now at) × (result < 2 ^ 32) }
 {
-    65536 * two(batch, at) + two(batch, at + 2)
-}
-
-// c, the number of entries.
-fn count(batch: &[u8]) -> usize
-    requires { 4 ≤ length batch.now }
-    ensures { (result ≡ count_of batch.now) × (result < 2 ^ 32) }
-{
-    four(batch, 0)
+    u32::from_be_bytes([batch[at], batch[at + 1], batch[at + 2], batch[at + 3]]) as usize
 }
 
 // Where an entry's span starts.
@@ -49,90 +43,73 @@ fn length(batch: &[u8], number: usize) -> usize
     four(batch, 8 + 8 * number)
 }
 
-// 1: the batch under 4 bytes or over 65,536, c out of range, or entries beyond its end.
-fn header_refused(batch: &[u8]) -> bool
-    ensures { result ≡ header_wrong batch.now }
+// c, the number of entries: 1 to 64, all inside a batch of 4 to 65,536 bytes.
+fn count(batch: &[u8]) -> Result<usize, Refusal>
+    ensures { MatchResult result (λ c. (header_wrong batch.now ≡ false) × (c ≡ count_of batch.now)) (λ e. (e ≡ Refusal.Header) × (header_wrong batch.now ≡ true)) }
 {
     let size = batch.len();
     if size < 4 {
-        return true;
+        return Err(Refusal::Header);
     }
-    let entries = count(batch);
-    (65536 < size) | (entries == 0) | (64 < entries) | (size < 4 + 8 * entries)
+    let entries = four(batch, 0);
+    if (65536 < size) | (entries == 0) | (64 < entries) | (size < 4 + 8 * entries) {
+        return Err(Refusal::Header);
+    }
+    Ok(entries)
 }
 
-// 2: the span starts before the header's end, or offset plus length passes the batch's length; or there is no such entry.
-fn span_outside(batch: &[u8], number: usize) -> bool
-    requires { header_wrong batch.now ≡ false }
-    ensures { result ≡ span_outside batch.now number }
+// The part of the batch that an entry names, and nothing else of it: its span starts behind the header, and ends inside the batch.
+fn part(batch: &[u8], number: usize) -> Result<&[u8], Refusal>
+    ensures { MatchResult result (λ part. (header_wrong batch.now ≡ false) × (span_outside batch.now number ≡ false) × (part.now ≡ part_of batch.now number)) (RefusedBy batch.now number) }
 {
-    let entries = count(batch);
+    let entries = count(batch)?;
     if entries <= number {
-        return true;
+        return Err(Refusal::Span);
     }
-    let start = offset(batch, number);
-    let size = length(batch, number);
-    (start < 4 + 8 * entries) | (batch.len() < start + size)
-}
-
-// The part of the batch that an entry names, and nothing else of it.
-fn part(batch: &[u8], number: usize) -> &[u8]
-    requires { (header_wrong batch.now ≡ false) × (span_outside batch.now number ≡ false) }
-    ensures { result.now ≡ part_of batch.now number }
-{
     let start = offset(batch, number);
     let end = start + length(batch, number);
-    &batch[start..end]
-}
-
-// A refusal by 1 or 2: place 0, steps 0, outcome 0, root 255, waiting 0.
-fn refused(number: u8) -> paper::Answer
-    ensures { result ≡ refused_with (record { number = number; place = 0 }) }
-{
-    paper::Answer {
-        refusal: number,
-        place: 0,
-        steps: 0,
-        outcome: 0,
-        root: 255,
-        waiting: 0,
+    if (start < 4 + 8 * entries) | (batch.len() < end) {
+        return Err(Refusal::Span);
     }
+    Ok(&batch[start..end])
 }
 
 // An entry's answer: the replay of its part, where 1 and 2 aren't given.
-pub fn entry(batch: &[u8], number: usize) -> paper::Answer
+pub fn entry(batch: &[u8], number: usize) -> Answer
     ensures { result ≡ entry_answer batch.now number }
 {
-    if header_refused(&*batch) {
-        return refused(1);
+    match part(batch, number) {
+        Ok(upload) => replay::replay(upload),
+        Err(refusal) => Answer::refused(refusal as u8, 0),
     }
-    if span_outside(&*batch, number) {
-        return refused(2);
-    }
-    replay::replay(part(&*batch, number))
 }
 
-// The answers of a batch, and 1 or 2 for each number of no entry.
-fn answers(batch: &[u8]) -> [paper::Answer; 64]
-    ensures { result ≡ list_of 64 (entry_answer batch.now) }
+// The lines of the entries 0, 1, .., one for each place of a buffer that their answers are put into.
+fn entry_lines(batch: &[u8], answers: &mut [Answer], out: &mut [u8]) -> Answer
+    ensures { Output (lines_from 0 (take 64 (list_of (length answers.old) (entry_answer batch.now)))) out.old out.new result }
 {
-    let none = refused(2);
-    let mut all = [none; 64];
-    let mut i = 0;
-    while i < 64 {
-        let answer = entry(&*batch, i);
-        all[i] = answer;
-        i += 1;
+    for (i, answer) in answers.iter_mut().enumerate() {
+        *answer = entry(batch, i);
     }
-    all
+    lines::write(answers, out)
+}
+
+// The lines of so many entries. Its buffer is not made where the header is refused, so it stays a call of its own.
+#[inline(never)]
+fn accepted_lines(batch: &[u8], entries: usize, out: &mut [u8]) -> Answer
+    requires { entries ≤ 64 }
+    ensures { Output (lines_from 0 (list_of entries (entry_answer batch.now))) out.old out.new result }
+{
+    let mut answers = [Answer::refused(Refusal::Span as u8, 0); 64];
+    entry_lines(batch, &mut answers[..entries], out)
 }
 
 // The printed text of a batch, into a lent buffer.
-pub fn lines(batch: &[u8], out: &mut [u8]) -> paper::Answer
+pub fn lines(batch: &[u8], out: &mut [u8]) -> Answer
     ensures { (result ≡ lines_answer batch.now out.old) × (out.new ≡ lines_buffer batch.now out.old) }
 {
-    if header_refused(batch) {
-        return lines::write_refused(out);
+    match count(batch) {
+        Ok(entries) => accepted_lines(batch, entries, out),
+        Err(_) => lines::write_refused(out),
     }
-    lines::write(answers(batch), count(batch), out)
 }

@@ -4,4 +4,6 @@ pub mod Pairs
 pub mod Sums
 pub mod Tests
 pub mod Lists
+pub mod Ranges
+pub mod Chains
 pub mod Directions

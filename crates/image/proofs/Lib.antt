@@ -1,4 +1,3 @@
-pub mod Judged
 pub mod Stored
 pub mod Sent
 pub mod Filled

@@ -2,15 +2,12 @@
 use Prim.Native.Nat.{ℕ, ◌+◌, ◌*◌, ◌%◌, ◌<◌}
 use mathlib.Core.Bool.{Bool, true, false, not, cond, ◌&&◌, ◌||◌, beq}
 use mathlib.Core.Path.{◌≡◌, refl, sym, ap, ◌∙◌, fun_ext}
-use mathlib.Core.List.{List}
 use native.Mathlib.Omega.{arith}
 use native.Mathlib.Decide.{ℕ_discrete, dec_lt}
 use lib.Dec.{ltb, eqb}
-use lib.ListN.{set}
 use borrow.Author.Tests.{eq-eqb, ne_eqb, lt-ltb, le-ltb}
 use Rattle.counting.specs.Count.{bit}
 use Rattle.counting.proofs.Bits.{bit_most}
-use Rattle.paper.specs.Upload.{byte_at}
 use Rattle.paper.specs.Table.{Table, source}
 use Rattle.paper.specs.State.{Message, State}
 use Rattle.paper.specs.Steps.{sends}
@@ -69,24 +66,6 @@ sent_step t s x p i b h = go (eqb (source t i b) x) refl
         b
         (rw e (ap (λ m. bit (s.child i b) + 2 * message_number m) (sym (cond_never (p i b) (sends (s.child i (not b))) (s.message i b)))))
         (λ j c. refl))
-
--- what is stored on a direction from x, and that nothing is stored on another
-module _ (t : Table) (x i : ℕ) (b : Bool) (image : List ℕ) (end : ℕ) (ends : end ≡ source t i b) where
-  pub sent_here : (d v : ℕ) (child : Bool) → end ≡ x → d ≡ direction_at t i b → child ≡ (state_of t image).child i (not b) → v ≡ message_byte (1 + bit child) (byte_at image d) → set image d v ≡ sent t x i b image
-  unfolding sent
-  sent_here d v child here at-d had stores = rw (eq-eqb (source t i b) x (sym ends ∙ here)) (stored ∙ ap (λ c. changed (message_byte (1 + bit c)) (direction_at t i b) image) had)
-    where
-      stored : set image d v ≡ changed (message_byte (1 + bit child)) (direction_at t i b) image
-      stored = ap (λ v. set image d v) stores ∙ ap (λ d. changed (message_byte (1 + bit child)) d image) at-d
-
-  pub sent_away : (end ≡ x → ⊥) → image ≡ sent t x i b image
-  unfolding sent
-  sent_away away = rw (ne_eqb (source t i b) x (λ e. away (ends ∙ e)))
-
--- first on one direction of the link, then back
-pub sent_both : (t : Table) (x i : ℕ) (image first second : List ℕ) → first ≡ sent t x i false image → second ≡ sent t x i true first → second ≡ sent_on t x i image
-unfolding sent_on
-sent_both t x i image first second e f = f ∙ ap (sent t x i true) e
 
 one_more : (k j : ℕ) (c : Bool) → also (also (λ i b. ltb i k) k false) k true j c ≡ ltb j (k + 1)
 one_more k j c = go (ℕ_discrete j k) (dec_lt j k) c

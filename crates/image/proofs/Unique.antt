@@ -5,8 +5,6 @@ use Rattle.determined.proofs.Equations.{same, lent, unlent}
 use Rattle.image.proofs.sound
 use Rattle.image.proofs.make_fresh
 use Rattle.image.proofs.wake
-use Rattle.image.proofs.take_at_node
-use Rattle.image.proofs.take_on_link
 use Rattle.image.proofs.take
 
 pub sound_determined : Determined sound.Kinds.ps sound.Kinds.r sound.Reads.Pre sound.Reads.Learnt
@@ -17,12 +15,6 @@ make_fresh_determined κs a pre z z' w w' p q = (refl, unlent (lent p q refl))
 
 pub wake_determined : Determined wake.Kinds.ps wake.Kinds.r wake.Reads.Pre wake.Reads.Learnt
 wake_determined κs a pre z z' w w' p q = (refl, unlent (lent p q refl))
-
-pub take_at_node_determined : Determined take_at_node.Kinds.ps take_at_node.Kinds.r take_at_node.Reads.Pre take_at_node.Reads.Learnt
-take_at_node_determined κs a pre z z' w w' p q = (refl, unlent (lent p q refl))
-
-pub take_on_link_determined : Determined take_on_link.Kinds.ps take_on_link.Kinds.r take_on_link.Reads.Pre take_on_link.Reads.Learnt
-take_on_link_determined κs a pre z z' w w' p q = (refl, unlent (lent p q refl))
 
 pub take_determined : Determined take.Kinds.ps take.Kinds.r take.Reads.Pre take.Reads.Learnt
 take_determined κs a pre z z' w w' p q = (refl, unlent (lent p q refl))

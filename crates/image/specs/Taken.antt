@@ -1,22 +1,21 @@
--- A step by its kind, and what is known of an image after a step.
-use Rattle.std.specs.Prelude.{ℕ, ◌<◌, ◌≤◌, Bool, true, false, cond, ◌≡◌, List}
+-- What a step asks of an image and of the table, and what is known of an image after it.
+use Rattle.std.specs.Prelude.{ℕ, ◌<◌, true, ◌≡◌, List, length}
 use Rattle.paper.specs.Table.{Table, table_of}
 use Rattle.paper.specs.State.{State}
-use Rattle.paper.specs.Steps.{Step}
-use Rattle.paper.specs.Actions.{of_node, node_step, link_step}
-use Rattle.paper.specs.Image.{state_of, sound}
+use Rattle.paper.specs.Image.{image_length, state_of, sound}
+use Rattle.upload.specs.declared.step.Step.{Step}
+use Rattle.upload.specs.declared.step.Step.TheVariants.{Node, Link}
 use Rattle.marks.specs.Lent.{Lent}
 
--- kinds 1 and 5 name the step at node x, the others that on the direction (i, b)
-abbrev pub step_of : ℕ → ℕ → ℕ → Bool → Step
-step_of kind x i b = cond (of_node kind) (node_step kind x) (link_step kind i b)
+-- a sound image of a table's length
+pub record SoundImage (t : Table) (image : List ℕ) : Type 0 where
+  pub fits : length image ≡ image_length t
+  pub is_sound : sound t image ≡ true
 
--- the kind is one of five, and the node or the link that it names is in the table
-pub record Named (t : Table) (kind x i : ℕ) : Type 0 where
-  pub least : 1 ≤ kind
-  pub most : kind ≤ 5
-  pub node : of_node kind ≡ true → x < t.nodes
-  pub link : of_node kind ≡ false → i < t.links
+-- the node or the link that a step names is in the table
+abbrev pub InTable : Table → Step → Type 0
+InTable t (Node k x) = x < t.nodes
+InTable t (Link k d) = d.link < t.links
 
 -- the image of a state, lent with the upload, sound, and showing that state
 pub record Holds (upload image : List ℕ) (s : State) : Type 0 where

@@ -1,6 +1,5 @@
 pub mod Written
 pub mod Decimal
-pub mod Lengths
 pub mod Ordered
 pub mod Room
 pub mod Unique

@@ -1,13 +1,10 @@
 -- A text into a lent buffer: refused where there is no room, else written from the buffer's start.
 use Prim.Native.Nat.{ℕ, ◌≤◌, ◌<◌}
-use mathlib.Core.Path.{◌∙◌}
+use mathlib.Core.Path.{◌≡◌}
 use mathlib.Core.List.{List}
-use native.Mathlib.Omega.{arith}
-use native.Mathlib.Nat.{zero-add}
 use borrow.Author.Tests.{lt-ltb, le-ltb}
-use lib.ListN.{length, take}
-use lib.Seq.{sets, sets-eq, lt-length-sets}
-use Rattle.lines.specs.Wrote.{Wrote}
+use lib.ListN.{length}
+use Rattle.paper.specs.Calls.{over}
 use Rattle.lines.specs.Output.{text_answer, text_buffer, written, no_room, Output}
 
 pub room_is_short : (text buffer : List ℕ) → length buffer < length text → Output text buffer buffer no_room
@@ -15,14 +12,10 @@ unfolding text_answer text_buffer
 room_is_short text buffer h =
     record { answered = rw (lt-ltb (length buffer) (length text) h); left = rw (lt-ltb (length buffer) (length text) h) }
 
-pub with_room : {text before after : List ℕ} {next : ℕ} → Wrote before 0 text after next → length text ≤ length before → Output text before after (written (length text))
+pub with_room : {text before after : List ℕ} → after ≡ over text before → length text ≤ length before → Output text before after (written (length text))
 unfolding text_answer text_buffer
-with_room {text} {before} {after} w h =
+with_room {text} {before} {after} e h =
     record {
       answered = rw (le-ltb (length before) (length text) h);
-      left = rw (le-ltb (length before) (length text) h) (w.left ∙ sets-eq text before 0 (omega arith) ∙ rw (zero-add (length text)));
+      left = rw (le-ltb (length before) (length text) h) e;
     }
-
--- after some bytes of a text there is room for the next
-pub next_fits : (text before : List ℕ) (n : ℕ) → length text ≤ length before → n < length text → n < length (sets before 0 (take n text))
-next_fits text before n room h = lt-length-sets before 0 (take n text) (omega arith)

@@ -7,7 +7,7 @@ use Rattle.lines.proofs.write_refused
 
 pub write_determined : Determined write.Kinds.ps write.Kinds.r write.Reads.Pre write.Reads.Learnt
 write_determined κs a pre z z' w w' p q =
-    (same p.answered q.answered, unlent (unlent (lent p.left q.left refl)))
+    (same p.answered q.answered, unlent (lent p.left q.left refl))
 
 pub write_refused_determined : Determined write_refused.Kinds.ps write_refused.Kinds.r write_refused.Reads.Pre write_refused.Reads.Learnt
 write_refused_determined κs a pre z z' w w' p q = (same p.answered q.answered, lent p.left q.left refl)

@@ -1,21 +1,28 @@
--- Laws of writing into a lent buffer: one text after another, nothing without room, all of it with room.
-use Prim.Native.Nat.{ℕ, suc, ◌+◌}
-use native.Mathlib.Nat.{add-zero, add-suc, suc-add}
+-- Laws of writing into a lent buffer: one text after another.
+use Prim.Native.Nat.{ℕ, suc, ◌+◌, ◌≤◌}
+use native.Mathlib.Nat.{zero-add, add-zero, add-suc, suc-add}
 use mathlib.Core.Path.{◌≡◌, ap, sym, ◌∙◌}
 use mathlib.Core.List.{List, [], ◌∷◌, ◌++◌}
 use native.Mathlib.Omega.{arith}
 use lib.ListN.{length, set, length-append}
-use lib.Seq.{sets}
-use Rattle.lines.specs.Wrote.{Wrote}
+use lib.Seq.{sets, sets-eq}
+use Rattle.paper.specs.Calls.{over}
+use Rattle.lines.specs.declared.Text.{Text}
+use Rattle.lines.specs.Text.{Writes}
 
-pub sets_append : (o : List ℕ) (at : ℕ) (l m : List ℕ) → sets o at (l ++ m) ≡ sets (sets o at l) (at + length l) m
+sets_append : (o : List ℕ) (at : ℕ) (l m : List ℕ) → sets o at (l ++ m) ≡ sets (sets o at l) (at + length l) m
 sets_append o at [] m = rw (add-zero at)
 sets_append o at (b ∷ l) m = sets_append (set o at b) (suc at) l m ∙ ap (λ (n : ℕ). sets (sets (set o at b) (suc at) l) n m) (suc-add at (length l) ∙ sym (add-suc at (length l)))
 
 -- one text, then another from where it ends
-pub then : {o o' o'' : List ℕ} {at next last : ℕ} {l m : List ℕ} → Wrote o at l o' next → Wrote o' next m o'' last → Wrote o at (l ++ m) o'' last
-then {o} {o'} {o''} {at} {next} {last} {l} {m} p q =
+pub then : {a b c : Text} {l m : List ℕ} → Writes a l b → Writes b m c → Writes a (l ++ m) c
+then {a} {b} {c} {l} {m} p q =
     record {
-      left = q.left ∙ rw (p.place, p.left) (sym (sets_append o at l m));
-      place = let h = length-append l m in let a = p.place in let b = q.place in omega arith;
+      left = q.left ∙ rw (p.place, p.left) (sym (sets_append a.out.now a.at l m));
+      place = omega (arith, length-append l m, p.place, q.place);
+      same_buffer = q.same_buffer ∙ p.same_buffer;
     }
+
+-- from the buffer's start, where there is room
+pub over_all : (text before : List ℕ) {after : List ℕ} → after ≡ sets before 0 text → length text ≤ length before → after ≡ over text before
+over_all text before e h = e ∙ sets-eq text before 0 (omega arith) ∙ rw (zero-add (length text))

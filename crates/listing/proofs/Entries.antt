@@ -2,10 +2,13 @@
 use Prim.Native.Nat.{ℕ, zero, suc, ◌<◌, ◌≤◌}
 use mathlib.Core.Bool.{Bool, true, false, cond, and-false}
 use mathlib.Core.List.{List, [], ◌∷◌, append-nil}
-use mathlib.Core.Path.{◌≡◌, refl}
+use mathlib.Core.Path.{◌≡◌, refl, ◌∙◌}
 use native.Mathlib.Omega.{arith}
+use Rattle.std.proofs.lemmas.Bool.Decides.{nat_tests}
 use borrow.Author.Tests.{lt-ltb, le-ltb, le-leb, eqb-false, ne_eqb}
 use lib.Dec.{ltb, eqb}
+use Rattle.std.specs.Prelude.{Option, Some, None, unwrap_or}
+use Rattle.std.specs.Option.{ForSome}
 use Rattle.counting.specs.Count.{joined}
 use Rattle.counting.proofs.Booleans.{or_neither}
 use Rattle.paper.specs.Table.{Table}
@@ -32,12 +35,7 @@ joined_none (suc n) f h =
 module _ (t : Table) (s : State) where
   taken_if : (g : Bool) (x : Step) (k : ℕ) (l : List ℕ) →
       cond (eqb (refused_by t s (cond g (names x) (unread (suc k)))) 0) l [] ≡ cond (cond g (possible t s x) false) l []
-  taken_if true x k l = go (possible t s x)
-    where
-      go : (p : Bool) → cond (eqb (cond p 0 11) 0) l [] ≡ cond p l []
-      go true = refl
-      go false = refl
-  taken_if false x k l = rw (ne_eqb (suc k) 0 (λ z. omega arith))
+  taken_if g x k l = grind (arith, nat_tests)
 
   module _ (kind x : ℕ) (small : t.nodes ≤ 63) (below : x < t.nodes) where
     pub node_entries : of_node kind ≡ true → entries_at t s kind x ≡ cond (possible t s (node_step kind x)) (kind ∷ x ∷ 255 ∷ []) []
@@ -53,8 +51,13 @@ module _ (t : Table) (s : State) where
           let last : entry t s kind x 255 ≡ [] = rw (e, f, le-ltb 255 t.nodes (omega arith), and-false) in
           rw last (append-nil (joined t.nodes (entry t s kind x)))
 
-      pub link_entry : (y : ℕ) → y < t.nodes → entry t s kind x y ≡ cond (may_list t s kind (link_between t x y) x) (kind ∷ x ∷ y ∷ []) []
+      -- the entry for y, by what a table of links has for y
+      pub link_entry : (y : ℕ) (o : Option ℕ) → y < t.nodes → unwrap_or o t.links ≡ link_between t x y → ForSome o (λ k. k < t.links) → entry t s kind x y ≡ cond (may_list t s kind o x) (kind ∷ x ∷ y ∷ []) []
       unfolding reading
-      link_entry y h =
-          rw (e, f, lt-ltb x t.nodes below, lt-ltb y t.nodes h)
-          (taken_if (ltb (link_between t x y) t.links) (link_step kind (link_between t x y) (direction_from t (link_between t x y) x)) 9 (kind ∷ x ∷ y ∷ []))
+      link_entry y o h found real =
+          rw (e, f, lt-ltb x t.nodes below, lt-ltb y t.nodes h, ← found)
+          (taken_if (ltb (unwrap_or o t.links) t.links) (link_step kind (unwrap_or o t.links) (direction_from t (unwrap_or o t.links) x)) 9 (kind ∷ x ∷ y ∷ []) ∙ go o real)
+        where
+          go : (o : Option ℕ) → ForSome o (λ k. k < t.links) → cond (cond (ltb (unwrap_or o t.links) t.links) (possible t s (link_step kind (unwrap_or o t.links) (direction_from t (unwrap_or o t.links) x))) false) (kind ∷ x ∷ y ∷ []) [] ≡ cond (may_list t s kind o x) (kind ∷ x ∷ y ∷ []) []
+          go (Some i) r = rw (lt-ltb i t.links (r i refl))
+          go None r = rw (le-ltb t.links t.links (omega arith))

@@ -1,21 +1,20 @@
 -- How long the list of possible steps can be: two entries for each node, two for each direction of a link.
 use Prim.Native.Nat.{ℕ, zero, suc, ◌+◌, ◌*◌, ◌≤◌, ◌<◌}
-use mathlib.Core.Bool.{Bool, true, false, not, cond, ◌&&◌, ◌||◌, false≢true}
+use mathlib.Core.Bool.{Bool, true, false, cond, ◌&&◌, ◌||◌}
 use mathlib.Core.Path.{◌≡◌, refl, sym, ap, ◌∙◌}
 use mathlib.Core.Logic.{◌⊎◌, inl, inr}
 use mathlib.Core.List.{List, [], ◌∷◌}
 use native.Mathlib.Omega.{arith}
-use native.Mathlib.Decide.{ℕ_discrete}
 use native.Mathlib.Nat.{zero-mul, suc-mul, mul-zero, mul-add}
 use lib.ListN.{length, length-append}
-use lib.Dec.{ltb, eqb}
+use lib.Dec.{eqb}
+use Rattle.std.proofs.lemmas.Bool.Decides.{nat_tests}
 use borrow.Author.Tests.{eqb-true, ne_eqb}
 use Rattle.counting.specs.Count.{bit, sum, joined}
-use Rattle.counting.proofs.Booleans.{and_right}
 use Rattle.counting.proofs.Sums.{sum_add, sum_eq, sum_le, sum_none, sum_swap, sum_term, count_unique}
-use Rattle.paper.specs.Table.{Table, target}
+use Rattle.paper.specs.Table.{Table}
 use Rattle.paper.specs.State.{State}
-use Rattle.paper.specs.Steps.{add_child, acknowledge, carries, possible}
+use Rattle.paper.specs.Steps.{add_child, acknowledge, possible}
 use Rattle.paper.specs.Actions.{Reading, joins, link_between, direction_from, reading, refused_by, entry, entries_at, entries_of, listed}
 use Rattle.paper.proofs.Readings.{Read, at_node, for_link, not_read, read}
 use Rattle.automaton.proofs.Taken.{taken_link}
@@ -63,8 +62,7 @@ two_pairs t i n =
     omega arith
   where
     or_most : (p q : Bool) → bit (p || q) ≤ bit p + bit q
-    or_most true q = omega arith
-    or_most false q = omega arith
+    or_most p q = grind arith
 
     row : (x : ℕ) → sum n (λ y. bit (joins t x y i)) ≤ sum n (λ y. bit (eqb (t.end i false) x && eqb (t.end i true) y)) + sum n (λ y. bit (eqb (t.end i false) y && eqb (t.end i true) x))
     row x =
@@ -76,11 +74,7 @@ module _ (t : Table) (s : State) where
   -- kind 2 wants the target of its direction to wait, kind 3 wants it not to
   waits_or_not : (i : ℕ) (b : Bool) → possible t s (add_child i b) ≡ true → possible t s (acknowledge i b) ≡ true → ⊥
   unfolding possible
-  waits_or_not i b e f = go (s.waiting (target t i b)) (and_right (ltb i t.links) _ e) (and_right (ltb i t.links) _ f)
-    where
-      go : (w : Bool) → w && carries (s.message i b) ≡ true → not w && carries (s.message i b) ≡ true → ⊥
-      go true p q = absurd (false≢true q)
-      go false p q = absurd (false≢true p)
+  waits_or_not i b e f = grind (arith, nat_tests)
 
   -- for the same two nodes both kinds name the same direction, so not both can be taken
   not_both : (x y : ℕ) → refused_by t s (reading t 2 x y) ≡ 0 → refused_by t s (reading t 3 x y) ≡ 0 → ⊥
@@ -110,11 +104,7 @@ module _ (t : Table) (s : State) where
 
   -- an entry is there or not
   entry_most : (kind x y : ℕ) → length (entry t s kind x y) ≤ 3
-  entry_most kind x y = go (eqb (refused_by t s (reading t kind x y)) 0)
-    where
-      go : (b : Bool) → length (cond b (kind ∷ x ∷ y ∷ []) []) ≤ 3
-      go true = omega arith
-      go false = omega arith
+  entry_most kind x y = grind arith
 
   entry_none : (kind x y : ℕ) → (refused_by t s (reading t kind x y) ≡ 0 → ⊥) → length (entry t s kind x y) ≡ 0
   entry_none kind x y h = rw (ne_eqb (refused_by t s (reading t kind x y)) 0 h)
@@ -133,17 +123,7 @@ module _ (t : Table) (s : State) where
 
   -- and so for kinds 2 and 3 together
   pair_joined : (x y : ℕ) → length (entry t s 2 x y) + length (entry t s 3 x y) ≤ sum t.links (λ i. 3 * bit (joins t x y i))
-  pair_joined x y = go (ℕ_discrete (refused_by t s (reading t 2 x y)) 0)
-    where
-      go : Dec (refused_by t s (reading t 2 x y) ≡ 0) → length (entry t s 2 x y) + length (entry t s 3 x y) ≤ sum t.links (λ i. 3 * bit (joins t x y i))
-      go (yes e) =
-          let none = entry_none 3 x y (not_both x y e) in
-          let most = entry_joined 2 x y (omega arith) (omega arith) in
-          omega arith
-      go (no e) =
-          let none = entry_none 2 x y e in
-          let most = entry_joined 3 x y (omega arith) (omega arith) in
-          omega arith
+  pair_joined x y = grind (arith, nat_tests, entry_none 3 x y, entry_none 2 x y, not_both x y, entry_joined 2 x y (omega arith) (omega arith), entry_joined 3 x y (omega arith) (omega arith))
 
   -- three bytes at most for each link that joins a pair are six at most for each link, over all pairs
   joined_most : (f : ℕ → ℕ → ℕ) → ((x y : ℕ) → f x y ≤ sum t.links (λ i. 3 * bit (joins t x y i))) → sum t.nodes (λ x. sum t.nodes (f x)) ≤ 6 * t.links

@@ -15,4 +15,4 @@ count_listed_determined κs a pre z z' w w' p q = (third _ z z' p.0 q.0, refl)
 
 pub list_determined : Determined list.Kinds.ps list.Kinds.r list.Reads.Pre list.Reads.Learnt
 list_determined κs a pre z z' w w' p q =
-    (third _ z z' p.0 q.0, unlent (unlent (lent p.1 q.1 refl)))
+    (third _ z z' p.0 q.0, unlent (lent p.1 q.1 refl))

@@ -2,6 +2,8 @@
 
 #![tactic(auto)]
 
+mod refused;
+
 // What every call answers: the six numbers of document 01, in its order.
 #[derive(Clone, Copy)]
 pub struct Answer {

@@ -1,51 +1,52 @@
--- Laws of a text in a lent buffer: one byte more of it, no room for it, all of it, its parts.
-use Prim.Native.Nat.{ℕ, ◌+◌, ◌≤◌, ◌<◌}
-use mathlib.Core.Path.{◌≡◌, ap, sym, subst, ◌∙◌}
+-- Laws of texts in a lent buffer, one behind another: one text more, all of them, no room for them.
+use Prim.Native.Nat.{ℕ, ◌+◌, ◌-◌, ◌≤◌, ◌<◌}
+use mathlib.Core.Path.{◌≡◌, ap, sym, ◌∙◌}
 use mathlib.Core.List.{List, [], ◌∷◌, ◌++◌, append_assoc}
 use native.Mathlib.Omega.{arith}
-use native.Mathlib.Nat.{zero-add}
-use native.Mathlib.Numerals.{add-one}
 use borrow.Author.Tests.{lt-ltb, le-ltb}
-use lib.ListN.{length, take, drop, get_or, set, length-append}
-use lib.Seq.{sets, sets-eq, take-suc, take_at, length-take-le}
-use Rattle.io.specs.Counts.{IsPrefixLen}
-use Rattle.lines.specs.Wrote.{Wrote}
-use Rattle.lines.proofs.Written.{sets_append}
-use Rattle.saved.specs.Placed.{Placed}
-use Rattle.saved.specs.Saved.{wide, answered_word, unread_words, totals_line}
-use Rattle.paper.specs.Lines.{newline}
+use borrow.Rule.Slice.PartMut.{put_mid}
+use lib.ListN.{length, take, drop, get_or, length-append}
+use Rattle.std.specs.Prelude.{Option, Some, None, fold, unwrap_or}
+use Rattle.std.specs.Borrow.{Bor}
+use Rattle.std.proofs.Math.Seq.{take-append_seam, drop-append_seam}
+use Rattle.std.proofs.Math.Nat.{add-sub_cancel_left}
+use Rattle.std.proofs.lemmas.List.{take-append-drop, drop-drop}
+use Rattle.std.proofs.lemmas.List.Sums.{fold-append, fold_more}
+use Rattle.paper.specs.Calls.{over}
+use Rattle.saved.specs.Placed.{Placed, Joins, text_of}
 
-pub sets_next : (before : List ℕ) (at : ℕ) (text : List ℕ) (i : ℕ) → i < length text → set (sets before at (take i text)) (at + i) (get_or text i 0) ≡ sets before at (take (i + 1) text)
-sets_next before at text i h =
-    sym
-    (rw (add-one i, take-suc text i 0 h)
-    (sets_append before at (take i text) (get_or text i 0 ∷ []) ∙ rw (length-take-le i text (omega arith))))
+-- what stands past the end of a list of texts
+abbrev pub past : Bor (List ℕ)
+past = record { ref_ptr = (0, 0); now = [] }
 
-pub room_is_short : (text before : List ℕ) → length before < length text → Placed text before before 0
-room_is_short text before h =
-    record { counted = rw (lt-ltb (length before) (length text) h); left = rw (lt-ltb (length before) (length text) h) }
+pub text_more : (texts : List (Bor (List ℕ))) (i : ℕ) → i < length texts → text_of (take (i + 1) texts) ≡ text_of (take i texts) ++ (get_or texts i past).now
+text_more texts i h = fold_more (λ (l : List ℕ) (t : Bor (List ℕ)). l ++ t.now) [] texts i past h
 
-pub with_room : {text before after : List ℕ} {next : ℕ} → Wrote before 0 text after next → length text ≤ length before → Placed text before after next
-with_room {text} {before} {after} w h =
-    record {
-      counted = rw (le-ltb (length before) (length text) h) (w.place ∙ zero-add (length text));
-      left = rw (le-ltb (length before) (length text) h) (w.left ∙ sets-eq text before 0 (omega arith) ∙ rw (zero-add (length text)));
-    }
+length-text_more : (texts : List (Bor (List ℕ))) (i : ℕ) → i < length texts → length (text_of (take (i + 1) texts)) ≡ length (text_of (take i texts)) + length (get_or texts i past).now
+length-text_more texts i h = ap length (text_more texts i h) ∙ length-append (text_of (take i texts)) (get_or texts i past).now
 
--- a text of three parts, and nothing else, is what a buffer starts with
-pub parts_first : (front middle rest text before after : List ℕ) (next : ℕ) → middle ≡ text → Wrote before 0 (front ++ middle ++ rest) after next → length front + length middle + length rest ≤ length before → (take next after ≡ front ++ text ++ rest) × IsPrefixLen next after
-parts_first front middle rest text before after next same w h =
-    let all = front ++ middle ++ rest in
-    let size : length all ≡ length front + length middle + length rest = omega (arith, length-append front middle, length-append (front ++ middle) rest) in
-    let count : next ≡ length all = w.place ∙ zero-add (length all) in
-    let left : after ≡ all ++ drop (0 + length all) before = w.left ∙ sets-eq all before 0 (omega arith) in
-    let start : take next after ≡ all = rw left (take_at all (drop (0 + length all) before) next (sym count)) in
-    let long : length after ≡ length all + length (drop (0 + length all) before) = ap length left ∙ length-append all (drop (0 + length all) before) in
-    (start ∙ ap (λ (m : List ℕ). front ++ m ++ rest) same, (omega arith, count ∙ ap length (sym start)))
+fold_most : (l : List ℕ) (texts : List (Bor (List ℕ))) → length l ≤ length (fold (λ (l : List ℕ) (t : Bor (List ℕ)). l ++ t.now) l texts)
+fold_most l [] = omega arith
+fold_most l (t ∷ texts) = omega (arith, fold_most (l ++ t.now) texts, length-append l t.now)
 
--- the last line in two parts, each with one number
-pub totals_placed : (answered unread : ℕ) {first second before after : List ℕ} {count : ℕ} → first ≡ answered_word ++ wide answered ++ unread_words → second ≡ [] ++ wide unread ++ (newline ∷ []) → Placed (first ++ second) before after count → Placed (totals_line answered unread) before after count
-unfolding totals_line
-totals_placed answered unread {first} {second} {before} {after} {count} p q placed =
-    let text : first ++ second ≡ totals_line answered unread = ap (λ (l : List ℕ). l ++ second) p ∙ ap (λ (l : List ℕ). answered_word ++ wide answered ++ unread_words ++ l) q ∙ sym (append_assoc (answered_word ++ wide answered ++ unread_words) (wide unread) (newline ∷ [])) in
-    subst (λ (l : List ℕ). Placed l before after count) text placed
+-- the first texts are no longer than all
+text_most : (texts : List (Bor (List ℕ))) (i : ℕ) → length (text_of (take i texts)) ≤ length (text_of texts)
+text_most texts i =
+    let whole : text_of texts ≡ fold (λ (l : List ℕ) (t : Bor (List ℕ)). l ++ t.now) (text_of (take i texts)) (drop i texts) = ap text_of (sym (take-append-drop i texts)) ∙ fold-append (λ (l : List ℕ) (t : Bor (List ℕ)). l ++ t.now) [] (take i texts) (drop i texts) in
+    omega (arith, ap length whole, fold_most (text_of (take i texts)) (drop i texts))
+
+-- one text more, and no more than all
+pub next_text : (texts : List (Bor (List ℕ))) (i : ℕ) → i < length texts → (length (text_of (take (i + 1) texts)) ≡ length (text_of (take i texts)) + length (get_or texts i past).now) × (length (text_of (take (i + 1) texts)) ≤ length (text_of texts))
+next_text texts i h = (length-text_more texts i h, text_most texts (i + 1))
+
+-- a text behind another
+pub over_next : (text more buffer : List ℕ) (at : ℕ) → at ≡ length text → put_mid at (at + length more - at) (over text buffer) more ≡ over (text ++ more) buffer
+over_next text more buffer at e =
+    rw (e, take-append_seam text (drop (length text) buffer), drop-append_seam text (drop (length text) buffer), add-sub_cancel_left, drop-drop, length-append text more, append_assoc)
+
+-- 0 where there is no room
+pub placed : (text before after : List ℕ) (count : Option ℕ) → Joins text before after count → Placed text before after (unwrap_or count 0)
+placed text before after None j =
+    record { counted = rw (lt-ltb (length before) (length text) j.0); left = rw (lt-ltb (length before) (length text) j.0) j.1 }
+placed text before after (Some n) j =
+    record { counted = rw (le-ltb (length before) (length text) j.0) j.1; left = rw (le-ltb (length before) (length text) j.0) j.2 }

@@ -1,4 +1,4 @@
--- The refusal of an upload at each place where the checks end, and the answer that it gives.
+-- The refusal of an upload at each place where the checks end.
 use Prim.Native.Nat.{ℕ, ◌<◌}
 use mathlib.Core.Bool.{Bool, true, false, not}
 use mathlib.Core.Path.{◌≡◌, refl, ap, ◌∙◌}
@@ -6,14 +6,12 @@ use mathlib.Core.List.{List, [], ◌∷◌}
 use native.Mathlib.Omega.{arith}
 use lib.ListN.{length}
 use lib.Dec.{ltb, eqb}
-use borrow.Author.Tests.{ne_eqb, eq-eqb, le-ltb}
+use borrow.Author.Tests.{eq-eqb, le-ltb}
 use Rattle.paper.specs.Upload.{nodes_of, links_of, actions_of, exact_length}
 use Rattle.paper.specs.Table.{table_of, one_piece}
 use Rattle.paper.specs.Refusals.{Refusal, first, given, in_range, link_refusal, links_refusal, refusal, table_refusal}
-use Rattle.table.specs.declared.Checked.TheVariants.{Refused}
-use Rattle.table.specs.Checked.{answered_at, piece_refusal, links_then_piece, HeaderPasses}
+use Rattle.table.specs.Checked.{piece_refusal, links_then_piece, HeaderPasses}
 use Rattle.table.proofs.Tells.{holds, tells_range}
-use Rattle.table.proofs.OneLink.{link_place}
 use Rattle.table.proofs.Order.{Clear, first_skip, first_stop, links_at, links_clear}
 
 -- n, m and a of an upload, tried for their ranges
@@ -61,15 +59,3 @@ module _ (upload : List ℕ) where
       alone : (b : Bool) → first (given b 8 0 ∷ []) ≡ given b 8 0
       alone true = refl
       alone false = refl
-
-  -- a refusal is answered with its number and its place
-  pub answered_refused : (r : Refusal) → (r.number ≡ 0 → ⊥) → answered_at upload r ≡ Refused r.number r.place
-  answered_refused r bad = rw (ne_eqb r.number 0 bad)
-
-  -- a link that is refused is answered with its own number
-  pub answered_link : (i : ℕ) → i < links_of upload → Clear (table_of upload) 0 i → ((link_refusal (table_of upload) i).number ≡ 0 → ⊥) → answered_at upload (links_then_piece upload) ≡ Refused (link_refusal (table_of upload) i).number i
-  answered_link i there clear bad =
-      let t = table_of upload in
-      ap (answered_at upload) (refused_link i there clear bad)
-      ∙ answered_refused (link_refusal t i) bad
-      ∙ ap (Refused (link_refusal t i).number) (link_place t i bad)

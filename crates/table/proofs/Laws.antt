@@ -1,18 +1,20 @@
 -- What an accepted upload gives to its readers.
 use Prim.Native.Nat.{ℕ, ◌<◌}
 use mathlib.Core.Bool.{Bool, true, false, not}
-use mathlib.Core.Path.{◌≡◌, sym}
+use mathlib.Core.Path.{◌≡◌, refl, sym}
 use mathlib.Core.List.{List}
 use native.Mathlib.Omega.{arith}
 use native.Mathlib.Decide.{dec_lt}
-use Rattle.paper.specs.Table.{Table, table_of}
-use Rattle.paper.specs.Refusals.{table_refusal}
+use Rattle.paper.specs.Upload.{links_of}
+use Rattle.paper.specs.Table.{Table, table_of, one_piece}
+use Rattle.paper.specs.Refusals.{accepted, table_refusal}
 use Rattle.paper.specs.Meanings.{NoRepeat}
-use Rattle.paper.proofs.OnePiece.{one_piece_cut}
+use Rattle.paper.proofs.OnePiece.{one_piece_holds, one_piece_cut}
 use Rattle.cabling.specs.Accepted.{Accepted}
+use Rattle.table.specs.Checked.{HeaderPasses}
 use Rattle.table.specs.ExactlyWhen.{LinksPass}
 use Rattle.table.proofs.OneLink.{passed_ends}
-use Rattle.table.proofs.ExactlyWhen.{passes_all}
+use Rattle.table.proofs.ExactlyWhen.{exactly_when, passes_all}
 
 -- of two links that join the same two nodes, neither is the earlier
 repeats_none : (t : Table) → LinksPass t t.links → NoRepeat t
@@ -30,6 +32,11 @@ repeats_none t pass i j b i< j< p q = go (dec_lt i j) (dec_lt j i)
     go (yes l) r = absurd ((pass j j<).new (i, b, l, mirrored b p q, mirrored_not b p q))
     go (no l) (yes r) = absurd ((pass i i<).new (j, b, r, sym p, sym q))
     go (no l) (no r) = omega arith
+
+-- an upload that passes every check is accepted
+pub accepted_table : {upload : List ℕ} → HeaderPasses upload → LinksPass (table_of upload) (links_of upload) → one_piece (table_of upload) ≡ true → table_refusal upload ≡ accepted
+accepted_table {upload} header links piece =
+    (exactly_when upload 0).accepted.1 (refl, record { header = header; links = links }, one_piece_holds (table_of upload) piece)
 
 pub accepted_laws : (upload : List ℕ) → (table_refusal upload).number ≡ 0 → Accepted upload
 accepted_laws upload h =

@@ -5,4 +5,5 @@ pub mod Order
 pub mod Answers
 pub mod ExactlyWhen
 pub mod Laws
+pub mod Told
 pub mod Unique

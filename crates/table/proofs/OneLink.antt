@@ -8,7 +8,6 @@ use native.Mathlib.Omega.{arith}
 use borrow.Author.Tests.{eqb-false}
 use Rattle.paper.specs.Table.{Table}
 use Rattle.paper.specs.Refusals.{Refusal, given, first, names_no_node, joins_itself, repeats, link_refusal}
-use Rattle.table.specs.Checked.{link_number}
 use Rattle.table.specs.ExactlyWhen.{NamesNoNode, JoinsItself, Repeats, LinkPasses}
 use Rattle.table.proofs.Tells.{holds, fails, decided, tells_names, tells_itself, tells_repeats}
 
@@ -22,16 +21,7 @@ tried_place false true c i h = refl
 tried_place false false true i h = refl
 tried_place false false false i h = absurd (h refl)
 
-tried_number : (a b c : Bool) (i : ℕ) → link_number a b c ≡ (tried a b c i).number
-tried_number true b c i = refl
-tried_number false true c i = refl
-tried_number false false true i = refl
-tried_number false false false i = refl
-
 module _ (t : Table) (i : ℕ) where
-  pub link_number_is : link_number (names_no_node t i) (joins_itself t i) (repeats t i) ≡ (link_refusal t i).number
-  link_number_is = tried_number (names_no_node t i) (joins_itself t i) (repeats t i) i
-
   pub link_place : ((link_refusal t i).number ≡ 0 → ⊥) → (link_refusal t i).place ≡ i
   link_place = tried_place (names_no_node t i) (joins_itself t i) (repeats t i) i
 

@@ -1,31 +1,8 @@
--- The answer of the reader, given from the paper's definitions.
-use Rattle.std.specs.Prelude.{ℕ, ◌≤◌, Bool, true, false, not, cond, ◌≡◌, List, [], ◌∷◌, length, eqb}
+-- What checks 3 to 8 of an upload come to, given from the paper's definitions.
+use Rattle.std.specs.Prelude.{ℕ, ◌≤◌, not, ◌≡◌, List, [], ◌∷◌, length}
 use Rattle.paper.specs.Upload.{nodes_of, links_of, actions_of, exact_length}
 use Rattle.paper.specs.Table.{table_of, one_piece}
-use Rattle.paper.specs.Refusals.{Refusal, first, given, links_refusal, table_refusal}
-use Rattle.table.specs.declared.Checked.{Checked}
-use Rattle.table.specs.declared.Checked.TheVariants.{Accepted, Refused}
-
--- the first answer where the test holds, else the second
-abbrev pub pick : Bool → Checked → Checked → Checked
-pick true a b = a
-pick false a b = b
-
--- number 0 is accepted, any other refuses with its place
-abbrev pub answered : ℕ → ℕ → ℕ → Refusal → Checked
-answered n m a r = pick (eqb r.number 0) (Accepted n m a) (Refused r.number r.place)
-
--- the same with n, m and a of an upload
-abbrev pub answered_at : List ℕ → Refusal → Checked
-answered_at upload r = answered (nodes_of upload) (links_of upload) (actions_of upload) r
-
--- checks 3 to 8 of an upload
-unfoldable pub checked : List ℕ → Checked
-checked upload = answered_at upload (table_refusal upload)
-
--- the number of a link by its three tests: names a node of n or more, joins a node to itself, repeats an earlier link
-abbrev pub link_number : Bool → Bool → Bool → ℕ
-link_number unnamed itself again = cond unnamed 5 (cond itself 6 (cond again 7 0))
+use Rattle.paper.specs.Refusals.{Refusal, first, given, links_refusal}
 
 -- check 8
 abbrev pub piece_refusal : List ℕ → Refusal

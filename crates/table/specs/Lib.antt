@@ -1,3 +1,4 @@
 pub mod Checked
+pub mod Told
 pub mod Labels
 pub mod ExactlyWhen

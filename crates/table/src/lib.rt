@@ -1,21 +1,23 @@
-// The reader: checks 3 to 8 of an upload, and what an accepted table gives to its callers.
+// The reader: checks 3 to 8 of an upload, and the cabling of an upload that passes them.
 
 #![tactic(auto)]
 
-ghost use Rattle.std.specs.Prelude.{◌≡◌, cond, ◌+◌, ◌<◌, ◌≤◌, length, get_or, eqb};
+ghost use Rattle.std.specs.Prelude.{◌≡◌, cond, ◌+◌, ◌<◌, ◌≤◌, length, get_or, eqb, true, false, IfOk, IfErr, MatchResult};
 ghost use Rattle.counting.specs.Count.{all};
 ghost use Rattle.paper.specs.Upload.{nodes_of, links_of, link_at};
-ghost use Rattle.paper.specs.Table.{table_of};
-ghost use Rattle.paper.specs.Refusals.{in_range, repeats, link_refusal};
-ghost use Rattle.table.specs.Labels.{Labelled, Rewritten, EndsWithin, EndsNamed, own_number, renamed, joined_by};
-ghost use Rattle.table.specs.Checked.{checked, link_number, answered_at, piece_refusal, links_then_piece, HeaderPasses};
+ghost use Rattle.paper.specs.Table.{table_of, one_piece};
+ghost use Rattle.paper.specs.Refusals.{in_range, repeats, link_refusal, table_refusal};
+ghost use Rattle.table.specs.Checked.{HeaderPasses};
+ghost use Rattle.table.specs.ExactlyWhen.{LinksPass};
+ghost use Rattle.table.specs.Labels.{Labelled, Rewritten, EndsWithin, own_number, renamed, joined_by};
+ghost use Rattle.table.specs.Told.{told, meant};
 
-// The answer of the reader.
-#[derive(Clone, Copy)]
-pub enum Checked {
-    Accepted { n: usize, m: usize, a: usize },
-    Refused { number: u8, place: u16 },
-}
+use cabling::Cabling;
+use upload::Upload;
+
+mod refusal;
+
+pub use refusal::Refusal;
 
 // n, m and a are in range.
 fn in_range(n: usize, m: usize, a: usize) -> bool
@@ -24,87 +26,23 @@ fn in_range(n: usize, m: usize, a: usize) -> bool
     ((1 <= n) & (n <= 63)) & ((m <= 126) & (a <= 1024))
 }
 
-// Link i repeats an earlier one.
-fn repeats(upload: &[u8], i: usize) -> bool
-    requires { link_at i + 2 ≤ length upload.now }
-    ensures { result ≡ repeats (table_of upload.now) i }
-{
-    let x = upload::end(upload, i, false);
-    let y = upload::end(upload, i, true);
-    let mut found = false;
-    let mut j = 0;
-    while j < i {
-        found = found | upload::joins(upload, x, y, j);
-        j += 1;
-    }
-    found
-}
-
-// The number by which a link is refused: 5, 6 and 7 in turn, 0 where none of the tests holds.
-fn link_verdict(unnamed: bool, itself: bool, again: bool) -> u8
-    ensures { result ≡ link_number unnamed itself again }
-{
-    if unnamed {
-        return 5;
-    }
-    if itself {
-        return 6;
-    }
-    if again {
-        return 7;
-    }
-    0
-}
-
-// The number by which link i is refused, 0 where it passes.
-fn link_number(upload: &[u8], i: usize) -> u8
-    requires { link_at i + 2 ≤ length upload.now }
-    ensures { result ≡ (link_refusal (table_of upload.now) i).number }
-{
-    let n = upload::nodes(upload);
-    let p = upload::end(upload, i, false);
-    let q = upload::end(upload, i, true);
-    link_verdict(!((p < n) & (q < n)), p == q, repeats(upload, i))
-}
-
 // Every node has its own number as label.
 fn number_nodes(labels: &mut [u8])
     requires { length labels.old ≤ 63 }
     ensures { Rewritten own_number labels.old labels.new }
 {
-    let mut x = 0;
-    while x < labels.len() {
-        labels[x] = x as u8;
-        x += 1;
+    for (x, label) in labels.iter_mut().enumerate() {
+        *label = x as u8;
     }
-}
-
-// The label that a node with this one has after a link.
-fn label_after(label: u8, second: u8, first: u8) -> u8
-    ensures { result ≡ cond (eqb label second) first label }
-{
-    if label == second { first } else { label }
 }
 
 // All nodes that have the second label get the first.
 fn relabel(labels: &mut [u8], second: u8, first: u8)
     ensures { Rewritten (renamed second first) labels.old labels.new }
 {
-    let mut x = 0;
-    while x < labels.len() {
-        labels[x] = label_after(labels[x], second, first);
-        x += 1;
+    for label in labels.iter_mut() {
+        *label = if *label == second { first } else { *label };
     }
-}
-
-// All nodes that have the label of link i's second node get the label of its first.
-fn join_link(labels: &mut [u8], upload: &[u8], i: usize)
-    requires { (link_at i + 2 ≤ length upload.now) × EndsWithin (table_of upload.now) i (length labels.old) }
-    ensures { Rewritten (joined_by (table_of upload.now) i labels.old) labels.old labels.new }
-{
-    let first = labels[upload::end(upload, i, false)];
-    let second = labels[upload::end(upload, i, true)];
-    relabel(labels, second, first);
 }
 
 // All labels are node 0's.
@@ -113,119 +51,128 @@ fn all_same(labels: &[u8]) -> bool
     ensures { result ≡ all (length labels.now) (λ x. eqb (get_or labels.now x 0) (get_or labels.now 0 0)) }
 {
     let first = labels[0];
-    let mut same = true;
-    let mut x = 0;
-    while x < labels.len() {
-        same = same & (labels[x] == first);
-        x += 1;
-    }
-    same
+    labels.iter().all(|&label| label == first)
 }
 
-// All links in turn join their nodes' labels.
-fn join_links(labels: &mut [u8], upload: &[u8])
-    requires { HeaderPasses upload.now × EndsNamed (table_of upload.now) × Labelled (table_of upload.now) 0 labels.old }
-    ensures { Labelled (table_of upload.now) (links_of upload.now) labels.new }
-{
-    let m = upload::links(upload);
-    let mut i = 0;
-    while i < m {
-        join_link(labels, upload, i);
-        i += 1;
-    }
+// An upload that passes checks 3 and 4.
+#[derive(Clone, Copy)]
+struct Exact<'a> {
+    upload: Upload<'a>,
+    ghost passes: { HeaderPasses upload.bytes.now },
 }
 
-// The answer where the labels are those after every link: they are all node 0's, or 8.
-fn labels_checked(labels: &[u8], upload: &[u8]) -> Checked
-    requires { HeaderPasses upload.now × Labelled (table_of upload.now) (links_of upload.now) labels.now }
-    ensures { result ≡ answered_at upload.now (piece_refusal upload.now) }
-{
-    if all_same(labels) {
-        Checked::Accepted {
-            n: upload::nodes(upload),
-            m: upload::links(upload),
-            a: upload::actions(upload),
+impl<'a> Exact<'a> {
+    // Checks 3 and 4: the length and the numbers.
+    fn read(upload: &'a [u8]) -> Result<Exact<'a>, Refusal>
+        ensures same { IfOk result (λ e. e.upload.bytes ≡ upload.entry) }
+        ensures refused { IfErr result (λ r. meant r ≡ table_refusal upload.now) }
+    {
+        if upload.len() < 4 {
+            return Err(Refusal::Length);
         }
-    } else {
-        Checked::Refused {
-            number: 8,
-            place: 0,
+        let upload = Upload { bytes: upload };
+        let m = upload.links();
+        let a = upload.actions();
+        if !in_range(upload.nodes(), m, a) {
+            return Err(Refusal::Range);
+        }
+        if upload.bytes.len() != 4 + 2 * m + 3 * a {
+            return Err(Refusal::Length);
+        }
+        Ok(Exact { upload })
+    }
+
+    // Link i repeats an earlier one.
+    fn repeats(&self, i: usize) -> bool
+        requires { i < links_of self.now.upload.bytes.now }
+        ensures { result ≡ repeats (table_of self.now.upload.bytes.now) i }
+    {
+        let x = self.upload.end(i, false);
+        let y = self.upload.end(i, true);
+        let mut found = false;
+        for j in 0..i {
+            found |= self.upload.joins(x, y, j);
+        }
+        found
+    }
+
+    // Checks 5, 6 and 7 of link i.
+    fn check_link(&self, i: usize) -> Result<(), Refusal>
+        requires { i < links_of self.now.upload.bytes.now }
+        ensures { told result ≡ link_refusal (table_of self.now.upload.bytes.now) i }
+    {
+        let n = self.upload.nodes();
+        let p = self.upload.end(i, false);
+        let q = self.upload.end(i, true);
+        let link = i as u8;
+        if !((p < n) & (q < n)) {
+            return Err(Refusal::NamesNoNode(link));
+        }
+        if p == q {
+            return Err(Refusal::JoinsItself(link));
+        }
+        if self.repeats(i) {
+            return Err(Refusal::Repeats(link));
+        }
+        Ok(())
+    }
+
+    // Checks 5 to 7, of each link in turn.
+    fn check_links(&self) -> Result<(), Refusal>
+        ensures { MatchResult result (λ _. LinksPass (table_of self.now.upload.bytes.now) (links_of self.now.upload.bytes.now)) (λ r. meant r ≡ table_refusal self.now.upload.bytes.now) }
+    {
+        for i in 0..self.upload.links() {
+            self.check_link(i)?;
+        }
+        Ok(())
+    }
+
+    // All nodes that have the label of link i's second node get the label of its first.
+    fn join_link(&self, labels: &mut [u8], i: usize)
+        requires { (i < links_of self.now.upload.bytes.now) × EndsWithin (table_of self.now.upload.bytes.now) i (length labels.old) }
+        ensures { Rewritten (joined_by (table_of self.now.upload.bytes.now) i labels.old) labels.old labels.new }
+    {
+        let first = labels[self.upload.end(i, false)];
+        let second = labels[self.upload.end(i, true)];
+        relabel(labels, second, first);
+    }
+
+    // All links in turn join their nodes' labels.
+    fn join_links(&self, labels: &mut [u8])
+        requires { LinksPass (table_of self.now.upload.bytes.now) (links_of self.now.upload.bytes.now) × Labelled (table_of self.now.upload.bytes.now) 0 labels.old }
+        ensures { Labelled (table_of self.now.upload.bytes.now) (links_of self.now.upload.bytes.now) labels.new }
+    {
+        for i in 0..self.upload.links() {
+            self.join_link(labels, i);
         }
     }
-}
 
-// Check 8, with a label for every node.
-fn nodes_checked(labels: &mut [u8], upload: &[u8]) -> Checked
-    requires { HeaderPasses upload.now × EndsNamed (table_of upload.now) × (length labels.old ≡ nodes_of upload.now) }
-    ensures { result ≡ answered_at upload.now (piece_refusal upload.now) }
-{
-    number_nodes(labels);
-    join_links(labels, upload);
-    labels_checked(labels, upload)
-}
-
-// Check 8, once every link passes.
-fn piece_checked(upload: &[u8]) -> Checked
-    requires { HeaderPasses upload.now × EndsNamed (table_of upload.now) }
-    ensures { result ≡ answered_at upload.now (piece_refusal upload.now) }
-{
-    let n = upload::nodes(upload);
-    let mut labels = [0u8; 63];
-    nodes_checked(&mut labels[..n], upload)
-}
-
-// A link is refused at its own number.
-fn refused(number: u8, link: usize) -> Checked
-    requires { link < 256 }
-    ensures { result ≡ Checked.Refused number link }
-{
-    Checked::Refused {
-        number,
-        place: link as u16,
-    }
-}
-
-// Checks 5 to 8, once the header passes: each link in turn, and then the piece.
-fn links_checked(upload: &[u8]) -> Checked
-    requires { HeaderPasses upload.now }
-    ensures { result ≡ answered_at upload.now (links_then_piece upload.now) }
-{
-    let m = upload::links(upload);
-    let mut i = 0;
-    while i < m {
-        let number = link_number(upload, i);
-        if number != 0 {
-            return refused(number, i);
+    // Check 8, by a label for each node: those of one piece are the same.
+    fn check_piece(&self) -> Result<(), Refusal>
+        requires { LinksPass (table_of self.now.upload.bytes.now) (links_of self.now.upload.bytes.now) }
+        ensures { MatchResult result (λ _. one_piece (table_of self.now.upload.bytes.now) ≡ true) (λ r. meant r ≡ table_refusal self.now.upload.bytes.now) }
+    {
+        let mut labels = [0u8; 63];
+        let labels = &mut labels[..self.upload.nodes()];
+        number_nodes(labels);
+        self.join_links(labels);
+        if all_same(labels) {
+            Ok(())
+        } else {
+            Err(Refusal::Pieces)
         }
-        i += 1;
     }
-    piece_checked(upload)
 }
 
 // Checks 3 to 8 of an upload, in the paper's order.
-pub fn check(upload: &[u8]) -> Checked
-    ensures { result ≡ checked upload.now }
+pub fn check(upload: &[u8]) -> Result<Cabling<'_>, Refusal>
+    ensures told { told result ≡ table_refusal upload.now }
+    ensures same { IfOk result (λ c. c.upload.bytes ≡ upload.entry) }
 {
-    let len = upload.len();
-    if len < 4 {
-        return Checked::Refused {
-            number: 3,
-            place: 0,
-        };
-    }
-    let m = upload::links(upload);
-    let a = upload::actions(upload);
-    if !in_range(upload::nodes(upload), m, a) {
-        return Checked::Refused {
-            number: 4,
-            place: 0,
-        };
-    }
-    if len != 4 + 2 * m + 3 * a {
-        return Checked::Refused {
-            number: 3,
-            place: 0,
-        };
-    }
-    links_checked(upload)
+    let exact = Exact::read(upload)?;
+    exact.check_links()?;
+    exact.check_piece()?;
+    Ok(Cabling {
+        upload: exact.upload,
+    })
 }

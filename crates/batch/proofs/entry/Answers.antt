@@ -1,30 +1,24 @@
-use mathlib.Core.Path.{ap, sym, ◌∙◌}
-use Rattle.paper.specs.Calls.{replay_answer}
-use Rattle.batch.proofs.Independent.{header_first, span_next, part_replayed}
+use Rattle.std.proofs.Common.{◌≡◌, ◌+◌, ap, refl, sym, ◌∙◌}
+use denote.Enum.Declared.{tag_of}
+use Rattle.paper.specs.Calls.{refused_with, replay_answer}
+use Rattle.batch.specs.contracts.Refusal.{the_type}
+use Rattle.batch.specs.declared.Refusal.{Refusal}
+use Rattle.batch.specs.declared.Refusal.TheVariants.{Header, Span}
+use Rattle.batch.specs.Refusal.{number_of}
+use Rattle.batch.proofs.Independent.{refused_answer, part_replayed}
 use Rattle.batch.proofs.entry.Goals as goal
 
-pub returns-then-header_refused : goal.returns-then-header_refused
-returns-then-header_refused c =
-    c.refused.ensures ∙ sym (header_first _ _ (sym c.header_refused.ensures ∙ c.if-header_refused.true))
+pub returns-in-Ok : goal.returns-in-Ok
+returns-in-Ok c =
+    let part = c.in-Ok.ensures in
+    c.replay.ensures ∙ ap replay_answer part.2 ∙ sym (part_replayed _ _ part.0 part.1)
 
-pub span_outside-requires : goal.span_outside-requires
-span_outside-requires c = sym c.header_refused.ensures ∙ c.if-header_refused.false
+number_is : (r : Refusal) → tag_of the_type r + 1 ≡ number_of r
+number_is Header = refl
+number_is Span = refl
 
-pub returns-then-span_outside : goal.returns-then-span_outside
-returns-then-span_outside c =
-    c.refused-then-span_outside.ensures
-    ∙ sym
-    (span_next _ _ (sym c.header_refused.ensures ∙ c.if-header_refused.false)
-    (sym c.span_outside.ensures ∙ c.if-span_outside.true))
-
-pub part-requires : goal.part-requires
-part-requires c =
-    (sym c.header_refused.ensures ∙ c.if-header_refused.false, sym c.span_outside.ensures ∙ c.if-span_outside.false)
-
-pub returns : goal.returns
-returns c =
-    c.replay.ensures
-    ∙ ap replay_answer c.part.ensures
-    ∙ sym
-    (part_replayed _ _ (sym c.header_refused.ensures ∙ c.if-header_refused.false)
-    (sym c.span_outside.ensures ∙ c.if-span_outside.false))
+pub returns-in-Err : goal.returns-in-Err
+returns-in-Err c =
+    c.refused.ensures
+    ∙ ap (λ n. refused_with (record { number = n; place = 0 })) (number_is c.in-Err.refusal)
+    ∙ refused_answer _ _ _ c.in-Err.ensures

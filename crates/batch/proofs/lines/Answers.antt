@@ -1,17 +1,13 @@
-use mathlib.Core.Path.{sym, ◌∙◌}
+use Rattle.std.proofs.Common.{arith}
 use Rattle.batch.proofs.Tests.{header_right}
 use Rattle.batch.proofs.Text.{printed, text_refused, text_lines}
 use Rattle.batch.proofs.lines.Goals as goal
 
-pub returns-then-header_refused : goal.returns-then-header_refused
-returns-then-header_refused c =
-    printed _ _ (text_refused _ (sym c.header_refused.ensures ∙ c.if-header_refused.true))
-    c.write_refused.ensures
+pub accepted_lines-requires : goal.accepted_lines-requires
+accepted_lines-requires c = omega (arith, c.in-Ok.ensures.1, (header_right _ c.in-Ok.ensures.0).most)
 
-pub count-requires : goal.count-requires
-count-requires c = (header_right _ (sym c.header_refused.ensures ∙ c.if-header_refused.false)).whole
+pub returns-in-Ok : goal.returns-in-Ok
+returns-in-Ok c = printed _ _ (text_lines _ c.in-Ok.ensures.0 c.in-Ok.ensures.1) c.accepted_lines.ensures
 
-pub returns : goal.returns
-returns c =
-    printed _ _ (text_lines _ (sym c.header_refused.ensures ∙ c.if-header_refused.false))
-    (rw (c.count.ensures.0, c.answers.ensures) at c.write.ensures)
+pub returns-in-Err : goal.returns-in-Err
+returns-in-Err c = printed _ _ (text_refused _ c.in-Err.ensures.1) c.write_refused.ensures

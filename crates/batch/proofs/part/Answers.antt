@@ -1,20 +1,45 @@
 use native.Mathlib.Omega.{arith}
 use native.Mathlib.Nat.{add-sub_cancel_left}
-use Rattle.batch.proofs.Tests.{header_right, span_inside}
+use borrow.Author.Tests.{le-leb, lt-leb}
+use Rattle.std.proofs.lemmas.Result.{err_from_is_err_and}
+use Rattle.paper.specs.Batch.{count_of, span_outside}
+use Rattle.batch.proofs.Tests.{header_right}
 use Rattle.batch.proofs.part.Goals as goal
+
+pub returns-in_err-entries : goal.returns-in_err-entries
+returns-in_err-entries c =
+    let error = err_from_is_err_and c.from_residual.result c.from_residual.ensures.1 in
+    rw (error.1, error.2, c.in_err-entries.ensures.0) c.in_err-entries.ensures.1
+
+pub returns-then-entries-number : goal.returns-then-entries-number
+unfolding span_outside
+returns-then-entries-number c =
+    let accepted = c.in_ok-entries.ensures in
+    (accepted.0, rw (le-leb (count_of c.args.batch.now) c.args.number (omega (arith, accepted.1))))
 
 pub offset-start-requires : goal.offset-start-requires
 offset-start-requires c =
-    omega (arith, (header_right _ c.requires.0).entries, (span_inside _ _ c.requires.1).named)
+    omega (arith, (header_right _ c.in_ok-entries.ensures.0).entries, c.in_ok-entries.ensures.1)
 
 pub length-requires : goal.length-requires
 length-requires c =
-    omega (arith, (header_right _ c.requires.0).entries, (span_inside _ _ c.requires.1).named)
+    omega (arith, (header_right _ c.in_ok-entries.ensures.0).entries, c.in_ok-entries.ensures.1)
+
+pub returns-then-start-entries : goal.returns-then-start-entries
+unfolding span_outside
+returns-then-start-entries c =
+    let accepted = c.in_ok-entries.ensures in (
+      accepted.0,
+      rw (lt-leb (count_of c.args.batch.now) c.args.number (omega (arith, accepted.1)), ← accepted.1, ← c.offset-start.ensures.0, ← c.length.ensures.0)
+          c.if-start-entries.true,
+    )
 
 pub returns : goal.returns
+unfolding span_outside
 returns c =
-    rw (add-sub_cancel_left, c.offset-start.ensures.0, c.length.ensures.0)
-
-pub slice_bounds-result-end : goal.slice_bounds-result-end
-slice_bounds-result-end c =
-    omega (arith, (span_inside _ _ c.requires.1).ends, c.offset-start.ensures.0, c.length.ensures.0)
+    let accepted = c.in_ok-entries.ensures in (
+      accepted.0,
+      rw (lt-leb (count_of c.args.batch.now) c.args.number (omega (arith, accepted.1)), ← accepted.1, ← c.offset-start.ensures.0, ← c.length.ensures.0)
+          c.if-start-entries.false,
+      rw (add-sub_cancel_left, c.offset-start.ensures.0, c.length.ensures.0),
+    )

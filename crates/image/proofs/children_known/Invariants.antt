@@ -1,17 +1,9 @@
-use Prim.Native.Nat.{◌-◌, ◌≤◌}
 use mathlib.Core.Path.{◌≡◌}
-use Rattle.paper.specs.Table.{table_of}
-use Rattle.paper.specs.State.{State}
-use Rattle.paper.specs.Image.{image_of}
-use Rattle.marks.specs.Lent.{Lent}
+use Rattle.paper.specs.Image.{image_of, state_of}
+use Rattle.cabling.specs.Cables.{cables}
 use Rattle.image.specs.Parts.{sent_below}
 use Rattle.image.proofs.children_known.Given as goal
 
 abbrev pub invariant-loop-link : goal.invariant-loop-link
 invariant-loop-link l =
-    ((s : State) → l.initial.image ≡ image_of (table_of l.upload) (sent_below (table_of l.upload) s l.x 0) → l.image ≡ image_of (table_of l.upload) (sent_below (table_of l.upload) s l.x l.link))
-    × Lent l.upload l.image
-    × (l.link ≤ l.m)
-
-abbrev pub decreases-loop-link : goal.decreases-loop-link
-decreases-loop-link l = l.m - l.link
+    l.image ≡ image_of (cables l.cabling) (sent_below (cables l.cabling) (state_of (cables l.cabling) l.fn.image) l.x l.link)

@@ -1,17 +1,16 @@
+use Rattle.std.proofs.Common.{rules}
+use Rattle.cabling.proofs.Passed.{accepted}
+use Rattle.image.proofs.Effects.{root_made, child_made}
 use Rattle.image.proofs.take.Goals as goal
 
-pub take_at_node-requires : goal.take_at_node-requires
-take_at_node-requires c =
-    let pre = c.requires in
-    (pre.0, pre.1, pre.2.node c.if-kind.true)
+pub returns-in-Node-BecomeRoot-default : goal.returns-in-Node-BecomeRoot-default
+returns-in-Node-BecomeRoot-default c =
+    let h = c.in-Node-BecomeRoot-default in
+    let made = root_made _ (accepted c.args.cabling.now.passes).ends _ c.requires.image_is_sound h.x _ (search rules) c.root_byte.ensures in
+    search rules
 
-pub take_on_link-requires : goal.take_on_link-requires
-take_on_link-requires c =
-    let pre = c.requires in
-    (pre.0, pre.1, pre.2.link c.if-kind.false)
-
-pub returns-then-kind : goal.returns-then-kind
-returns-then-kind c = rw c.if-kind.true c.take_at_node.ensures
-
-pub returns-else-kind : goal.returns-else-kind
-returns-else-kind c = rw c.if-kind.false c.take_on_link.ensures
+pub returns-in-Link-AddChild-default : goal.returns-in-Link-AddChild-default
+returns-in-Link-AddChild-default c =
+    let h = c.in-Link-AddChild-default in
+    let made = child_made _ (accepted c.args.cabling.now.passes).ends _ c.requires.image_is_sound h.d.link h.d.back _ (search rules) c.direction_at.ensures.0 in
+    search rules

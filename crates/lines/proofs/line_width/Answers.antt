@@ -1,6 +1,7 @@
-use Rattle.std.proofs.Common.{arith}
-use Rattle.lines.proofs.Lengths.{line_length}
+use Rattle.std.proofs.Common.{arith, length-append}
+use Rattle.paper.specs.Lines.{line_of}
 use Rattle.lines.proofs.line_width.Goals as goal
 
 pub returns : goal.returns
-returns c = omega (arith, line_length c.args.number c.args.answer)
+unfolding line_of
+returns c = (simp length-append (omega arith), omega arith)

@@ -1,16 +1,13 @@
-use Rattle.std.proofs.Common.{◌<◌, ap, arith, get_or, length, length-append, refl, take}
-use Rattle.paper.specs.Lines.{line_of, lines_from}
-use Rattle.lines.proofs.Ordered.{lines_next, unwritten}
+use Rattle.std.proofs.Common.{arith, length, rules, tests}
+use Rattle.std.proofs.lemmas.Iterator.{YieldsList-from_slice, YieldsList-from_map}
+use Rattle.std.proofs.lemmas.Iterator.Consumers.{YieldsList-from_enumerate, sum_by_from_yields_List}
+use Rattle.paper.specs.Lines.{line_of}
+use Rattle.lines.proofs.Ordered.{lines_most, lines_width}
 use Rattle.lines.proofs.lines_width.Goals as goal
 
-pub loop-i-init : goal.loop-i-init
-unfolding lines_from
-loop-i-init c = (omega arith, omega arith, refl)
-
-pub loop-i-preserved : goal.loop-i-preserved
-loop-i-preserved c =
-    let i = c.loop-i.i in
-    let answers = c.args.answers in
-    let inside : i < length answers = omega arith in
-    let longer = length-append (lines_from 0 (take i answers)) (line_of i (get_or answers i unwritten)) in
-    (omega arith, omega arith, omega (arith, longer, ap length (lines_next i answers unwritten inside)))
+pub returns : goal.returns
+returns c =
+    let answers = c.args.answers.now in
+    let each = sum_by_from_yields_List (λ p. length (line_of p.0 p.1)) _ c.map.result c.sum.result c.sum.ensures.ran
+    (YieldsList-from_map _ (λ p. length (line_of p.0 p.1)) (YieldsList-from_enumerate (YieldsList-from_slice answers cc) (cc)) c.map.ensures.closure (λ x r q k. search (rules, tests))) in
+    omega (arith, each, lines_width 0 answers, lines_most 0 answers)

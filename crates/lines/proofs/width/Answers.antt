@@ -1,6 +1,6 @@
 use Rattle.std.proofs.Common.{arith}
-use Rattle.lines.proofs.Lengths.{decimal_width}
+use Rattle.lines.proofs.Decimal.{decimal_width, digits_most}
 use Rattle.lines.proofs.width.Goals as goal
 
 pub returns : goal.returns
-returns c = omega (arith, decimal_width c.args.k)
+returns c = omega (arith, decimal_width c.args.k c.requires, digits_most 4 c.args.k)

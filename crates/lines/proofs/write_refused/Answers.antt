@@ -1,4 +1,4 @@
-use Rattle.std.proofs.Common.{refl}
+use Rattle.std.proofs.Common.{ap, drop, ◌++◌}
 use Rattle.paper.specs.Lines.{refused_line}
 use Rattle.lines.proofs.Room.{room_is_short, with_room}
 use Rattle.lines.proofs.write_refused.Goals as goal
@@ -9,4 +9,4 @@ returns-then-out-lt10 c = rw c.no_room.ensures (room_is_short refused_line c.arg
 pub returns : goal.returns
 returns c =
     rw c.accepted.ensures
-    (with_room {text = refused_line} {before = c.args.out.now} {next = 10} (record { left = refl; place = refl }) c.if-out-lt10.false)
+    (with_room {text = refused_line} (ap (λ l. l ++ drop 10 c.args.out.now) c.copy_from_slice.ensures.after) c.if-out-lt10.false)

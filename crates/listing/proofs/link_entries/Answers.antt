@@ -1,15 +1,24 @@
 use borrow.Author.Rules.{rules}
-use mathlib.Core.Path.{sym, ◌∙◌}
-use Rattle.listing.proofs.Written.{wrote_none, wrote_as}
-use Rattle.listing.proofs.Linked.{noted_none}
-use Rattle.listing.proofs.Resting.{none_from}
+use mathlib.Core.Bool.{false}
+use mathlib.Core.Path.{◌≡◌, ap}
+use Rattle.upload.specs.declared.step.LinkKind.TheVariants.{Resolve}
+use Rattle.upload.specs.Kinds.{link_number}
+use Rattle.marks.specs.Shown.{table, shown}
+use Rattle.listing.proofs.Resting.{none_of_four}
+use Rattle.listing.proofs.Written.{appends_start, appends_next, appends_same}
+use Rattle.listing.proofs.link_entries.Goals.{then-ne, else-ne+else-contending}
 use Rattle.listing.proofs.link_entries.Goals as goal
 
-pub returns-then-ruled_out : goal.returns-then-ruled_out
-returns-then-ruled_out c =
-    let ruled = sym c.ruled_out.ensures ∙ c.if-ruled_out.true in
-    (wrote_as (sym (none_from _ _ c.args.kind c.args.x ruled)) (wrote_none _ _), search rules)
+pub loop-x-init : goal.loop-x-init
+loop-x-init c = appends_start _ 63 _
 
-pub note_links-requires : goal.note_links-requires
-note_links-requires c =
-    (c.requires.0.table, noted_none _ c.args.x c.links-m.result c.links-m.ensures.0)
+pub loop-x-preserved : goal.loop-x-preserved
+loop-x-preserved c =
+    let now = c.loop-x in
+    let view = c.args.view.now in
+    elim c.if-ne.branch [
+      then-ne w ↦ rw w.writer-is (appends_next 63 now.x _ now.invariant w.link_entries_from.ensures)
+    | else-ne+else-contending w ↦
+        let resolve : c.args.kind ≡ Resolve = search rules in
+        let rests : (shown view).contending now.x ≡ false = search rules in
+        rw w.writer-is (appends_same 63 now.x _ now.invariant (rw (ap link_number resolve) (none_of_four (table view) (shown view) now.x rests))) ]

@@ -5,4 +5,4 @@ use Rattle.listing.proofs.list.Goals as goal
 pub returns : goal.returns
 returns c =
     let wrote = c.list_into.ensures.0 in
-    (omega (arith, wrote.count), wrote_over _ wrote c.requires.1)
+    (omega (arith, wrote.count), wrote_over _ wrote c.requires)

@@ -1,7 +1,8 @@
-use Rattle.saved.proofs.Numbers.{answer_placed}
+use Rattle.saved.specs.Saved.{answer_line}
+use Rattle.saved.proofs.Numbers.{numbers_behind}
 use Rattle.saved.proofs.answer_line.Goals as goal
 
 pub returns : goal.returns
+unfolding answer_line
 returns c =
-    let a = c.args in
-    answer_placed a.name.now a.upload.now _ c.entry-n.result c.replay-answer.ensures c.entry-n.ensures.0 c.behind.ensures
+    rw (numbers_behind _ _ _ c.entry-n.ensures.1 c.entry-n.ensures.0, c.replay-answer.ensures) at c.line.ensures

@@ -3,5 +3,4 @@ use Rattle.saved.proofs.entry.Goals as goal
 
 pub returns : goal.returns
 returns c =
-    let e = entry_written c.args.answer c.write-done.result c.args.out.now _ c.write-done.ensures c.requires in
-    (e.text, e.some, e.most)
+    entry_written c.args.answer.now c.write.result c.args.out.now _ (rw c.from_ref.ensures.value at c.write.ensures) c.told-out

@@ -3,5 +3,4 @@ use Rattle.saved.proofs.progress_line.Goals as goal
 
 pub returns : goal.returns
 unfolding progress_line
-returns c =
-    rw c.spelled-n.ensures.0 at c.joined.ensures
+returns c = rw c.spelled.ensures at c.line.ensures

@@ -1,18 +1,12 @@
--- `all_same` meets its contract. The loop's invariant: so far the bytes below x are node 0's.
-use mathlib.Core.Path.{◌≡◌, sym}
-use native.Mathlib.Omega.{arith}
-use lib.ListN.{length}
-use borrow.Author.Rules.{rules}
-use Rattle.counting.proofs.Tests.{all_empty, all_more}
+-- `all_same` meets its contract: what `all` says of the bytes in turn is said of their places.
+use Rattle.std.proofs.Common.{rules, tests, get_or, eqb, ◌∙◌}
+use Rattle.std.proofs.lemmas.Iterator.{YieldsList-from_slice}
+use Rattle.std.proofs.lemmas.Iterator.Search.{all_from_yields_List}
+use Rattle.counting.proofs.Ranges.{list_all_is_all}
 use Rattle.table.proofs.all_same.Goals as goal
-
-pub loop-x-init : goal.loop-x-init
-loop-x-init c = (search rules, sym (all_empty _))
-
-pub loop-x-preserved : goal.loop-x-preserved
-loop-x-preserved c = (search rules, rw (c.loop-x.invariant.1, all_more))
 
 pub returns : goal.returns
 returns c =
-    let done : c.loop-x.x ≡ length c.args.labels.now = omega arith in
-    rw (c.loop-x.invariant.1, done)
+    let labels = c.args.labels.now in
+    all_from_yields_List (λ x. eqb x (get_or labels 0 0)) _ _ c.all.result c.all.ensures.ran (YieldsList-from_slice labels (search rules)) (λ x b q k. search (rules, tests))
+    ∙ list_all_is_all 0 labels _
