@@ -5,4 +5,5 @@ pub mod Sums
 pub mod Tests
 pub mod Lists
 pub mod Ranges
+pub mod Chains
 pub mod Directions

@@ -1,10 +1,11 @@
 -- What a chain over 0, 1, .., n - 1 gives, by the words of this crate.
-use Rattle.std.proofs.Common.{ℕ, zero, suc, ◌+◌, ◌<◌, Bool, true, false, cond, ◌&&◌, ◌||◌, List, [], ◌∷◌, ◌++◌, length, length-append, map, flat_map, filter, find, sum_by, Option, None, Some, MatchOption, unwrap_or, ◌≡◌, refl, sym, ap, ◌∙◌, subst, append-nil, arith}
+use Rattle.std.proofs.Common.{ℕ, zero, suc, ◌+◌, ◌<◌, Bool, true, false, cond, ◌&&◌, ◌||◌, List, [], ◌∷◌, ◌++◌, length, length-append, get_or, map, flat_map, filter, find, sum_by, Option, None, Some, MatchOption, unwrap_or, ◌≡◌, refl, sym, ap, ◌∙◌, subst, append-nil, arith}
 use Rattle.std.specs.List.{list_any, list_all, range_with_len}
 use Rattle.std.specs.Option.{option_or}
 use Rattle.std.proofs.lemmas.List.{map-append}
-use Rattle.std.proofs.lemmas.List.Folds.{list_any-append, list_all-append, find-append}
+use Rattle.std.proofs.lemmas.List.Folds.{list_any-append, list_all-append, list_all-map, find-append}
 use Rattle.std.proofs.lemmas.List.Elements.{filter-append}
+use Rattle.std.proofs.lemmas.List.FromFn.{fill_by_all}
 use Rattle.std.proofs.lemmas.List.Sums.{sum_by_push}
 use Rattle.std.proofs.lemmas.Grind.{flat_map-append}
 use Rattle.counting.specs.Count.{all, some, least, sum, count, bit, list_of, joined}
@@ -121,3 +122,14 @@ module _ {A : Type 0} where
       ∙ flat_map-append f (range_with_len 0 n) (n ∷ [])
       ∙ ap (λ l. flat_map f (range_with_len 0 n) ++ l) (append-nil (f n))
       ∙ ap (λ l. l ++ f n) (flat_map_is_joined n f)
+
+-- a list's elements in turn
+module _ {A : Type 0} (d : A) (xs : List A) where
+  by_index : xs ≡ map (λ i. get_or xs i d) (range_with_len 0 (length xs))
+  by_index = fill_by_all (λ i. get_or xs i d) xs (length xs) d refl (λ k h. refl)
+
+  pub list_all_is_all : (p : A → Bool) → list_all p xs ≡ all (length xs) (λ i. p (get_or xs i d))
+  list_all_is_all p =
+      ap (list_all p) by_index
+      ∙ list_all-map p (λ i. get_or xs i d) (range_with_len 0 (length xs))
+      ∙ all_is_all (λ i. p (get_or xs i d)) (length xs)
