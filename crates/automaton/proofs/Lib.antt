@@ -1,6 +1,5 @@
 pub mod Possible
 pub mod More
-pub mod Named
 pub mod Taken
 pub mod Found
 pub mod Counted

@@ -38,6 +38,7 @@ fn lacking_on(view: &View, x: usize, i: usize) -> usize
 }
 
 // At most so many directions into x lack child.
+#[tactic(auto, using(counting::proofs::Sums::sum_empty, counting::proofs::Sums::sum_more, crate::proofs::More::lacking_none))]
 fn unheard_within(view: &View, x: usize, few: usize) -> bool
     ensures { result ≡ leb (unheard (table view.now) (shown view.now) x) few }
 {
