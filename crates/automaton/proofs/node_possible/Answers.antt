@@ -1,3 +1,4 @@
+-- As a term, so that another mark falls at the mark.
 use Rattle.std.proofs.Common.{sym, ◌∙◌}
 use Rattle.automaton.proofs.Possible.{becomes}
 use Rattle.automaton.proofs.node_possible.Goals as goal
