@@ -1,5 +1,5 @@
-pub mod Leading
-pub mod Found
-pub mod Unique
-pub mod Least
-pub mod Directions
+pub mod OfKind
+pub mod Order
+pub mod Heads
+pub mod Nodes
+pub mod Links

@@ -1,177 +1,69 @@
-// The first possible step of a lent image.
+// The first possible step of a view.
 
 #![tactic(auto)]
 
-ghost use Rattle.std.specs.Prelude.{◌≡◌, true, false, ◌+◌, ◌*◌, ◌<◌, ◌≤◌};
-ghost use Rattle.paper.specs.Upload.{nodes_of, links_of};
-ghost use Rattle.paper.specs.Table.{table_of};
-ghost use Rattle.paper.specs.Actions.{of_node, of_link, entries_at, entries_of, listed};
-ghost use Rattle.cabling.specs.Accepted.{Accepted};
-ghost use Rattle.marks.specs.Lent.{Lent};
-ghost use Rattle.automaton.specs.Tried.{shown};
-ghost use Rattle.first.specs.Leads.{nothing, first_of, Leads};
-ghost use Rattle.first.specs.Places.{number, place, entry_on, Nearest};
+ghost use Rattle.std.specs.Prelude.{◌≡◌, ◌<◌};
+ghost use Rattle.paper.specs.Actions.{listed};
+ghost use Rattle.upload.specs.Kinds.{node_number, link_number};
+ghost use Rattle.marks.specs.Shown.{table, shown};
+ghost use Rattle.first.specs.Leads.{Leads};
+ghost use Rattle.first.specs.Least.{Least, pair};
 
-// The first entry of the list, with the direction that it names; 0 and false where nothing is found.
-#[derive(Clone, Copy)]
-pub struct First {
-    pub found: bool,
-    pub kind: u8,
-    pub x: u8,
-    pub y: u8,
-    pub link: usize,
-    pub back: bool,
+use marks::View;
+use upload::Direction;
+use upload::step::{LinkKind, NodeKind, Step};
+
+// The first step of a kind at a node: that at the least node where it is possible.
+fn first_at_nodes(view: &View, kind: NodeKind) -> Option<Step>
+    ensures { Least (table view.now) (shown view.now) (node_number kind) (node_number kind) result }
+{
+    (0..view.cabling.nodes())
+        .find(|x| automaton::node_possible(view, kind, *x))
+        .map(|x| Step::Node(kind, x))
 }
 
-// Nothing is found.
-fn nothing() -> First
-    ensures { result ≡ nothing }
+// The nodes of a direction as one number: its source, then its target.
+fn pair(view: &View, d: Direction) -> usize
+    requires { d.link < (table view.now).links }
+    ensures { result ≡ pair (table view.now) d.link d.back }
 {
-    First {
-        found: false,
-        kind: 0,
-        x: 0,
-        y: 0,
-        link: 0,
-        back: false,
-    }
+    256 * view.cabling.source(d) + view.cabling.target(d)
 }
 
-// The entry of kind 1 or 5 at x.
-fn first_at_node(upload: &[u8], image: &[u8], kind: usize, x: usize) -> First
-    requires { Lent upload.now image.now × (x < nodes_of upload.now) × (of_node kind ≡ true) × (kind ≤ 5) }
-    ensures { Leads (table_of upload.now) (entries_at (table_of upload.now) (shown upload.now image.now) kind x) result }
+// The first step of a kind on a direction: of those that are possible, that on the direction with the least pair of nodes.
+fn first_on_links(view: &View, kind: LinkKind) -> Option<Step>
+    ensures { Least (table view.now) (shown view.now) (link_number kind) (link_number kind) result }
 {
-    if automaton::node_possible(upload, image, kind, x) {
-        First {
-            found: true,
-            kind: kind as u8,
-            x: x as u8,
-            y: 255,
-            link: 0,
-            back: false,
+    let mut first: Option<(usize, Direction)> = None;
+    for link in 0..view.cabling.links() {
+        for back in [false, true] {
+            let d = Direction { link, back };
+            if automaton::link_possible(view, kind, d) {
+                let here = pair(view, d);
+                if first.is_none_or(|(least, _)| here < least) {
+                    first = Some((here, d));
+                }
+            }
         }
-    } else {
-        nothing()
     }
+    first.map(|(_, d)| Step::Link(kind, d))
 }
 
-// The first entry of kind 1 or 5.
-fn first_at_nodes(upload: &[u8], image: &[u8], kind: usize) -> First
-    requires { Lent upload.now image.now × (of_node kind ≡ true) × (kind ≤ 5) }
-    ensures { Leads (table_of upload.now) (entries_of (table_of upload.now) (shown upload.now image.now) kind) result }
+// The first step of the list.
+pub fn first_listed(view: &View) -> Option<Step>
+    ensures { Leads (table view.now) (listed (table view.now) (shown view.now)) result }
 {
-    let n = upload::nodes(upload);
-    let mut x: usize = 0;
-    while x < n {
-        let here = first_at_node(upload, image, kind, x);
-        if here.found {
-            return here;
-        }
-        x += 1;
+    if let Some(step) = first_at_nodes(view, NodeKind::ChildrenKnown) {
+        return Some(step);
     }
-    nothing()
-}
-
-// Where a direction of link i stands: by its source, then its target; its own number comes last.
-fn place(upload: &[u8], i: usize, back: bool) -> usize
-    requires { Accepted upload.now × (i < links_of upload.now) }
-    ensures { result ≡ place (table_of upload.now) i back }
-{
-    65536 * automaton::end_node(upload, i, back)
-        + 256 * automaton::end_node(upload, i, !back)
-        + (2 * i + back as usize)
-}
-
-// The least place, of that so far and a direction of link i, which counts where its step is possible.
-fn lesser_place(
-    upload: &[u8],
-    image: &[u8],
-    kind: usize,
-    i: usize,
-    back: bool,
-    best: usize,
-) -> usize
-    requires { Lent upload.now image.now × (i < links_of upload.now) × Nearest (table_of upload.now) (shown upload.now image.now) kind (number i back) best }
-    ensures { Nearest (table_of upload.now) (shown upload.now image.now) kind (number i back + 1) result }
-{
-    if automaton::link_possible(upload, image, kind, i, back) {
-        let here = place(upload, i, back);
-        if here < best { here } else { best }
-    } else {
-        best
+    if let Some(step) = first_on_links(view, LinkKind::AddChild) {
+        return Some(step);
     }
-}
-
-// The least place of a direction on which the step of kinds 2 to 4 is possible; 64 * 65536, behind all places, where there is none.
-fn least_place(upload: &[u8], image: &[u8], kind: usize) -> usize
-    requires { Lent upload.now image.now }
-    ensures { Nearest (table_of upload.now) (shown upload.now image.now) kind (2 * links_of upload.now) result }
-{
-    let m = upload::links(upload);
-    let mut best: usize = 4194304;
-    let mut i: usize = 0;
-    while i < m {
-        let there = lesser_place(upload, image, kind, i, false, best);
-        let back = lesser_place(upload, image, kind, i, true, there);
-        best = back;
-        i += 1;
+    if let Some(step) = first_on_links(view, LinkKind::Acknowledge) {
+        return Some(step);
     }
-    best
-}
-
-// The entry of kinds 2 to 4 on a direction of link i.
-fn entry_on(upload: &[u8], kind: usize, i: usize, back: bool) -> First
-    requires { Accepted upload.now × (i < links_of upload.now) × (kind ≤ 5) }
-    ensures { result ≡ entry_on (table_of upload.now) kind i back }
-{
-    First {
-        found: true,
-        kind: kind as u8,
-        x: automaton::end_node(upload, i, back) as u8,
-        y: automaton::end_node(upload, i, !back) as u8,
-        link: i,
-        back: back,
+    if let Some(step) = first_on_links(view, LinkKind::Resolve) {
+        return Some(step);
     }
-}
-
-// The first entry of kinds 2 to 4.
-fn first_on_links(upload: &[u8], image: &[u8], kind: usize) -> First
-    requires { Lent upload.now image.now × (of_node kind ≡ false) × (of_link kind ≡ true) × (kind ≤ 5) }
-    ensures { Leads (table_of upload.now) (entries_of (table_of upload.now) (shown upload.now image.now) kind) result }
-{
-    let best = least_place(upload, image, kind);
-    if best < 4194304 {
-        entry_on(upload, kind, best % 256 / 2, best % 2 == 1)
-    } else {
-        nothing()
-    }
-}
-
-// The first entry of one kind.
-fn first_of_kind(upload: &[u8], image: &[u8], kind: usize) -> First
-    requires { Lent upload.now image.now × (1 ≤ kind) × (kind ≤ 5) }
-    ensures { Leads (table_of upload.now) (entries_of (table_of upload.now) (shown upload.now image.now) kind) result }
-{
-    if (kind == 1) | (kind == 5) {
-        first_at_nodes(upload, image, kind)
-    } else {
-        first_on_links(upload, image, kind)
-    }
-}
-
-// The first entry of the list.
-pub fn first_listed(upload: &[u8], image: &[u8]) -> First
-    requires { Lent upload.now image.now }
-    ensures { result ≡ first_of (table_of upload.now) (listed (table_of upload.now) (shown upload.now image.now)) }
-{
-    let mut k: usize = 0;
-    while k < 5 {
-        let here = first_of_kind(upload, image, k + 1);
-        if here.found {
-            return here;
-        }
-        k += 1;
-    }
-    nothing()
+    first_at_nodes(view, NodeKind::BecomeRoot)
 }

@@ -1,27 +1,16 @@
-use borrow.Author.Rules.{rules}
-use Prim.Native.Nat.{◌<◌}
-use mathlib.Core.Path.{◌≡◌}
-use native.Mathlib.Omega.{arith}
-use Rattle.paper.specs.Upload.{nodes_of}
-use Rattle.first.proofs.Leading.{joined_start, leads_on, leads_found, leads_end}
+use Rattle.std.proofs.Common.{rules, arith, tests}
+use Rattle.std.proofs.lemmas.Iterator.{first_from_Range}
+use Rattle.paper.specs.Actions.{node_step}
+use Rattle.paper.specs.Steps.{possible}
+use Rattle.marks.specs.Shown.{table, shown}
+use Rattle.upload.specs.Kinds.{node_number}
+use Rattle.std.proofs.Common.{◌≡◌, true, false, ℕ}
+use Rattle.first.proofs.Nodes.{least_at_nodes}
 use Rattle.first.proofs.first_at_nodes.Goals as goal
-
-pub loop-x-init : goal.loop-x-init
-loop-x-init c = (search rules, c.nodes-n.ensures.0, joined_start _)
-
-pub returns-then-here : goal.returns-then-here
-returns-then-here c =
-    let now = c.loop-x in
-    let below : now.x < nodes_of c.args.upload.now = omega arith in
-    leads_found _ _ _ below now.invariant.2 c.first_at_node-here.ensures c.if-here.true
-
-pub loop-x-preserved : goal.loop-x-preserved
-loop-x-preserved c =
-    let now = c.loop-x in
-    (search rules, now.invariant.1, leads_on _ _ now.invariant.2 c.first_at_node-here.ensures c.if-here.false)
 
 pub returns : goal.returns
 returns c =
-    let now = c.loop-x in
-    let all : now.x ≡ nodes_of c.args.upload.now = omega arith in
-    leads_end _ all now.invariant.2 c.nothing.ensures
+    let may = λ (x : ℕ). possible (table c.args.view.now) (shown c.args.view.now) (node_step (node_number c.args.kind) x) in
+    least_at_nodes (table c.args.view.now) (shown c.args.view.now) c.args.kind c.nodes.result c.find.result c.map.result (search rules)
+    (first_from_Range _ _ _ c.find.result (λ x. may x ≡ true) (λ x. may x ≡ false) c.find.ensures.ran (λ x q e. search (rules, tests)) (λ x q e. search (rules, tests)))
+    (search rules)

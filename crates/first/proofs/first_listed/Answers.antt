@@ -1,34 +1,26 @@
-use borrow.Author.Rules.{rules}
-use Prim.Native.Nat.{ℕ, suc}
-use mathlib.Core.List.{List}
-use mathlib.Core.Path.{◌≡◌, ap}
-use native.Mathlib.Numerals.{add-one}
-use native.Mathlib.Omega.{arith}
-use Rattle.paper.specs.Actions.{entries_of, listed}
-use Rattle.paper.specs.Table.{table_of}
-use Rattle.automaton.specs.Tried.{shown}
-use Rattle.first.proofs.Leading.{joined_start, leads_on, leads_found, leads_end, leads_as}
+use Rattle.std.proofs.Common.{arith}
+use Rattle.first.proofs.Order.{none_behind, first_behind}
+use Rattle.first.proofs.Heads.{heads, leads}
 use Rattle.first.proofs.first_listed.Goals as goal
 
-pub loop-k-init : goal.loop-k-init
-loop-k-init c = (search rules, joined_start _)
+pub returns-in-Some : goal.returns-in-Some
+returns-in-Some c = heads c.args.view.now (omega arith) c.in-Some.ensures
 
-pub returns-then-here : goal.returns-then-here
-unfolding listed
-returns-then-here c =
-    let now = c.loop-k in
-    let of : ℕ → List ℕ = entries_of (table_of c.args.upload.now) (shown c.args.upload.now c.args.image.now) in
-    (leads_found 5 now.k (λ (j : ℕ). of (suc j)) (search rules) now.invariant.1 (leads_as (ap of (add-one now.k)) c.first_of_kind-here.ensures) c.if-here.true).is
+pub returns-in-Some-first_on_links : goal.returns-in-Some-first_on_links
+returns-in-Some-first_on_links c =
+    heads c.args.view.now (omega arith) (first_behind (omega arith) c.in_default.ensures c.in-Some-first_on_links.ensures)
 
-pub loop-k-preserved : goal.loop-k-preserved
-loop-k-preserved c =
-    let now = c.loop-k in
-    let of : ℕ → List ℕ = entries_of (table_of c.args.upload.now) (shown c.args.upload.now c.args.image.now) in
-    (search rules, leads_on now.k (λ (j : ℕ). of (suc j)) now.invariant.1 (leads_as (ap of (add-one now.k)) c.first_of_kind-here.ensures) c.if-here.false)
+pub returns-in-Some-first_on_links-2 : goal.returns-in-Some-first_on_links-2
+returns-in-Some-first_on_links-2 c =
+    let none = none_behind c.in_default.ensures c.in_default-first_on_links.ensures in
+    heads c.args.view.now (omega arith) (first_behind (omega arith) none c.in-Some-first_on_links-2.ensures)
+
+pub returns-in-Some-first_on_links-3 : goal.returns-in-Some-first_on_links-3
+returns-in-Some-first_on_links-3 c =
+    let none = none_behind (none_behind c.in_default.ensures c.in_default-first_on_links.ensures) c.in_default-first_on_links-2.ensures in
+    heads c.args.view.now (omega arith) (first_behind (omega arith) none c.in-Some-first_on_links-3.ensures)
 
 pub returns : goal.returns
-unfolding listed
 returns c =
-    let now = c.loop-k in
-    let all : now.k ≡ 5 = omega arith in
-    (leads_end _ all now.invariant.1 c.nothing.ensures).is
+    let none = none_behind (none_behind (none_behind c.in_default.ensures c.in_default-first_on_links.ensures) c.in_default-first_on_links-2.ensures) c.in_default-first_on_links-3.ensures in
+    leads c.args.view.now c.first_at_nodes-2.result none c.first_at_nodes-2.ensures
