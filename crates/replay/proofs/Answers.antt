@@ -5,7 +5,6 @@ use mathlib.Core.Path.{◌≡◌, refl, sym, ap, ◌∙◌}
 use mathlib.Core.List.{List}
 use lib.ListN.{length}
 use borrow.Author.Tests.{eqb-true}
-use Rattle.paper.specs.declared.Answer.{Answer}
 use Rattle.paper.specs.Table.{Table, table_of}
 use Rattle.paper.specs.State.{State, fresh}
 use Rattle.paper.specs.Image.{image_length, image_of, state_of, fits, sound}

@@ -1,5 +1,5 @@
 -- What the reader's answer says of the table's refusal.
-use Rattle.std.proofs.Common.{ℕ, List, ◌≡◌, refl, sym, ap, ◌∙◌, arith}
+use Rattle.std.proofs.Common.{ℕ, List, ◌≡◌, sym, ap, ◌∙◌, arith}
 use Rattle.paper.specs.Refusals as paper
 use Rattle.paper.specs.Refusals.{table_refusal}
 use Rattle.table.specs.declared.refusal.Refusal.{Refusal}

@@ -1,5 +1,5 @@
 -- What a call answers where a check hands on its refusal, and what the view shows where all checks pass.
-use Rattle.std.proofs.Common.{ℕ, List, length, Bor, Bool, true, false, ◌&&◌, ◌≡◌, refl, sym, ap, ◌∙◌}
+use Rattle.std.proofs.Common.{ℕ, List, length, Bor, Bool, true, ◌&&◌, ◌≡◌, sym, ap, ◌∙◌}
 use borrow.Author.Tests.{eqb-true}
 use Rattle.std.specs.Prelude.{Result, Ok, Err, IsErrAnd}
 use Rattle.paper.specs.declared.Answer.{Answer}
@@ -20,7 +20,7 @@ use Rattle.marks.specs.Shown.{table, shown}
 use Rattle.table.specs.declared.refusal.Refusal as table
 use Rattle.table.specs.Told.{meant}
 use Rattle.replay.specs.declared.refusal.Refusal.{Refusal}
-use Rattle.replay.specs.declared.refusal.Refusal.TheVariants.{Table, Image, Room}
+use Rattle.replay.specs.declared.refusal.Refusal.TheVariants.{Table, Image}
 use Rattle.automaton.specs.declared.Refused.{Refused}
 use Rattle.automaton.specs.Tried.{refused_number}
 use Rattle.replay.specs.Refused.{given_by, answer_of, number_of}

@@ -1,5 +1,6 @@
-use Rattle.std.proofs.Common.{rules, arith, subst, ◌≡◌}
-use Rattle.replay.proofs.Running.{Underway, starts, runs_on, comes_to_rest, run_out}
+use Rattle.std.proofs.Common.{ℕ, arith, subst, ◌≡◌}
+use Rattle.replay.specs.Running.{RanTo}
+use Rattle.replay.proofs.Running.{starts, runs_on, comes_to_rest, run_out}
 use Rattle.replay.proofs.Handed.{lent_with}
 use Rattle.replay.proofs.run_into.Goals as goal
 
@@ -20,4 +21,8 @@ loop-steps-preserved c =
     runs_on c.args.cabling.now.upload.bytes.now c.loop-steps.image c.loop-steps.steps c.loop-steps.invariant _ _ (omega (arith, c.longest_run-most.ensures.0, c.loop-steps-test.true)) c.take_first.ensures c.if-not-take_first.false
 
 pub returns : goal.returns
-returns c = let h = c.loop-steps in ?
+returns c =
+    let up = c.args.cabling.now.upload.bytes.now in
+    let last : c.loop-steps.steps ≡ c.longest_run-most.result = omega (arith, c.loop-steps-test.false, c.loop-steps.auto.steps-end) in
+    subst (λ (n : ℕ). RanTo up n c.loop-steps.image) last
+    (run_out up c.loop-steps.image c.loop-steps.steps c.loop-steps.invariant (omega (arith, c.longest_run-most.ensures.0, c.loop-steps-test.false)))

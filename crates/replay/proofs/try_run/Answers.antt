@@ -1,6 +1,6 @@
 use Rattle.std.proofs.Common.{ℕ, List, sym, ap, ◌∙◌}
 use Rattle.paper.specs.Table.{table_of}
-use Rattle.paper.specs.Image.{state_of, image_of}
+use Rattle.paper.specs.Image.{image_of}
 use Rattle.paper.specs.Refusals.{accepted}
 use Rattle.paper.specs.Runner.{Ran, runner}
 use Rattle.paper.specs.Calls.{reported}
