@@ -25,7 +25,7 @@ struct Writer<'a> {
     count: usize,
 }
 
-// Stores a byte where the buffer has room for it.
+// Stores a byte where the buffer has room for it. By a test: after `get_mut` of a slice a proof knows no byte of it.
 fn put(out: &mut [u8], at: usize, byte: u8)
     ensures { out.new ≡ set out.old at byte }
 {
