@@ -2,7 +2,7 @@
 
 #![tactic(auto)]
 
-ghost use Rattle.std.specs.Prelude.{◌≡◌, ◌+◌, ◌*◌, ◌<◌, ◌≤◌, ◌&&◌, not, eqb, [], ◌∷◌, length, set};
+ghost use Rattle.std.specs.Prelude.{◌≡◌, ◌*◌, ◌<◌, ◌≤◌, [], ◌∷◌, length, set};
 ghost use Rattle.std.specs.Option.{ForSome};
 ghost use Rattle.paper.specs.Actions.{entries_at, entries_of, listed, direction_from};
 ghost use Rattle.paper.specs.Calls.{over};
