@@ -2,7 +2,7 @@
 
 #![tactic(auto)]
 
-ghost use Rattle.std.specs.Prelude.{◌≡◌, ◌+◌, ◌*◌, ◌<◌, ◌≤◌, ◌&&◌, not, eqb, [], ◌∷◌, length, set};
+ghost use Rattle.std.specs.Prelude.{◌≡◌, ◌*◌, ◌<◌, ◌≤◌, [], ◌∷◌, length, set};
 ghost use Rattle.std.specs.Option.{ForSome};
 ghost use Rattle.paper.specs.Actions.{entries_at, entries_of, listed, direction_from};
 ghost use Rattle.paper.specs.Calls.{over};
@@ -25,7 +25,7 @@ struct Writer<'a> {
     count: usize,
 }
 
-// Stores a byte where the buffer has room for it.
+// Stores a byte where the buffer has room for it. By a test: after `get_mut` of a slice a proof knows no byte of it.
 fn put(out: &mut [u8], at: usize, byte: u8)
     ensures { out.new ≡ set out.old at byte }
 {
