@@ -174,6 +174,8 @@ fn children_known(cabling: &Cabling, image: &mut [u8], x: usize)
 }
 
 // Takes a step. By kind 5 the node is root; by kind 2 the direction gets child, and its message is removed.
+// In line, so that the step does not go through memory.
+#[inline(always)]
 pub fn take(cabling: &Cabling, image: &mut [u8], step: Step)
     requires image_is_sound { SoundImage (cables cabling.now) image.old }
     requires in_table { InTable (cables cabling.now) step }
