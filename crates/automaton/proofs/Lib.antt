@@ -1,8 +1,6 @@
 pub mod Possible
 pub mod More
-pub mod Named
 pub mod Taken
-pub mod Moves
 pub mod Found
 pub mod Counted
 pub mod Meant

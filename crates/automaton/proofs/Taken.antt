@@ -1,14 +1,12 @@
--- An action that can be taken names a step of the table that is possible: at node x in kinds 1 and 5, else on the direction found.
-use Prim.Native.Nat.{ℕ, suc, ◌<◌}
-use mathlib.Core.Bool.{Bool, true, false, cond, ◌&&◌}
-use mathlib.Core.Path.{◌≡◌, refl, sym, ap, ◌∙◌}
-use native.Mathlib.Omega.{arith}
-use borrow.Author.Tests.{ltb-true, eqb-true}
-use lib.Dec.{ltb, eqb}
+-- An action that can be taken names a step that is possible; in kinds 2 to 4 it is on the direction found.
+use Rattle.std.proofs.Common.{ℕ, suc, ◌<◌, Bool, true, false, cond, ◌&&◌, Ok, ◌≡◌, refl, sym, ap, ◌∙◌, arith}
+use Rattle.std.proofs.Math.Dec.{ltb}
+use Rattle.std.proofs.lemmas.Bool.{ltb-true}
 use Rattle.counting.proofs.Booleans.{and_left, and_right}
 use Rattle.paper.specs.Table.{Table}
 use Rattle.paper.specs.State.{State}
 use Rattle.paper.specs.Steps.{Step, possible}
+use Rattle.paper.specs.Actions.{Reading, names, unread, link_between, direction_from, link_step, read_node, read_link, of_node, of_link, reading, refused_by}
 use Rattle.upload.specs.Kinds.{node_number, link_number, meant}
 use Rattle.upload.specs.declared.step.NodeKind.{NodeKind}
 use Rattle.upload.specs.declared.step.NodeKind.TheVariants.{ChildrenKnown, BecomeRoot}
@@ -16,15 +14,6 @@ use Rattle.upload.specs.declared.step.LinkKind.{LinkKind}
 use Rattle.upload.specs.declared.step.LinkKind.TheVariants.{AddChild, Acknowledge, Resolve}
 use Rattle.upload.specs.declared.step.Step as step
 use Rattle.automaton.specs.Tried.{TriedAs}
-use Rattle.std.proofs.Common.{Ok}
-use Rattle.paper.specs.Actions.{Reading, names, unread, link_between, direction_from, node_step, link_step, read_node, read_link, of_node, of_link, reading, refused_by}
-
--- an action of kind 1 or 5 that can be taken
-pub record AtNode (t : Table) (s : State) (kind x y : ℕ) : Type 0 where
-  pub node : x < t.nodes
-  pub all : y ≡ 255
-  pub read : reading t kind x y ≡ names (node_step kind x)
-  pub may : possible t s (node_step kind x) ≡ true
 
 -- an action of kinds 2 to 4 that can be taken, on direction (i, b)
 pub record OnLink (t : Table) (s : State) (kind x y i : ℕ) (b : Bool) : Type 0 where
@@ -48,19 +37,6 @@ module _ (t : Table) (s : State) where
       go : (p : Bool) → ◌≡◌ {A = ℕ} (cond p 0 11) 0 → p ≡ true
       go true h = refl
       go false h = absurd (omega arith)
-
-  taken_node : (kind x y : ℕ) → of_node kind ≡ true → refused_by t s (reading t kind x y) ≡ 0 → AtNode t s kind x y
-  unfolding reading
-  taken_node kind x y e h =
-      let way : reading t kind x y ≡ read_node t kind x y = rw e in
-      let test = ltb x t.nodes && eqb y 255 in
-      let got = picked test (names (node_step kind x)) 8 (sym (ap (refused_by t s) way) ∙ h) in
-      record {
-        node = ltb-true x t.nodes (and_left (ltb x t.nodes) (eqb y 255) got.0);
-        all = eqb-true y 255 (and_right (ltb x t.nodes) (eqb y 255) got.0);
-        read = way ∙ ap (λ (g : Bool). cond g (names (node_step kind x)) (unread 9)) got.0;
-        may = allowed (node_step kind x) got.1;
-      }
 
   pub taken_link : (kind x y : ℕ) →
       of_node kind ≡ false →

@@ -38,6 +38,7 @@ fn lacking_on(view: &View, x: usize, i: usize) -> usize
 }
 
 // At most so many directions into x lack child.
+#[tactic(auto, using(counting::proofs::Sums::sum_empty, counting::proofs::Sums::sum_more, crate::proofs::More::lacking_none))]
 fn unheard_within(view: &View, x: usize, few: usize) -> bool
     ensures { result ≡ leb (unheard (table view.now) (shown view.now) x) few }
 {
@@ -54,6 +55,7 @@ fn unheard_within(view: &View, x: usize, few: usize) -> bool
 }
 
 // A step at node x is possible: its mark allows it, and at most one direction into x lacks child, none for a step that makes it root.
+#[tactic(auto, unfolding(paper::specs::Steps::possible))]
 pub fn node_possible(view: &View, kind: NodeKind, x: usize) -> bool
     requires { x < (table view.now).nodes }
     ensures { result ≡ possible (table view.now) (shown view.now) (node_step (node_number kind) x) }
@@ -65,6 +67,7 @@ pub fn node_possible(view: &View, kind: NodeKind, x: usize) -> bool
 }
 
 // A step on a direction is possible.
+#[tactic(auto, unfolding(paper::specs::Steps::possible))]
 pub fn link_possible(view: &View, kind: LinkKind, d: Direction) -> bool
     requires { d.link < (table view.now).links }
     ensures { result ≡ possible (table view.now) (shown view.now) (link_step (link_number kind) d.link d.back) }
@@ -191,6 +194,7 @@ fn node_moves(view: &View, x: usize) -> bool
 }
 
 // Some step on a direction is possible: it carries a message, or both its nodes contend.
+#[tactic(auto, unfolding(paper::specs::Steps::possible))]
 fn direction_moves(view: &View, d: Direction) -> bool
     requires { d.link < (table view.now).links }
     ensures { result ≡ moves_on (table view.now) (shown view.now) d.link d.back }

@@ -1,8 +1,9 @@
--- The messages of the code by the words of document 01.
+-- The messages by the words of document 01.
 use Rattle.paper.specs.State
 use Rattle.image.specs.declared.Message.{Message}
 use Rattle.image.specs.declared.Message.TheVariants.{None, Request, Acknowledgement}
 
+-- the message of document 01 that a message is
 abbrev pub carried : Message → State.Message
 carried None = State.none
 carried Request = State.request

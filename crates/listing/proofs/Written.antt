@@ -39,7 +39,7 @@ wrote_over {o} l w h =
     w.bytes ∙ sets-eq l o 0 (omega arith) ∙ ap (λ (n : ℕ). l ++ drop n o) (zero-add (length l))
 
 -- nothing is added
-appends_none : (w : Writer) (k : ℕ) → Appends w [] k w
+pub appends_none : (w : Writer) (k : ℕ) → Appends w [] k w
 appends_none w k = record { wrote = record { bytes = refl; count = omega arith }; few = omega arith; lent = refl }
 
 -- more is added

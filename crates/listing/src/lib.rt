@@ -48,15 +48,23 @@ impl Writer<'_> {
     }
 }
 
-// Writes the entries of a kind at a node.
+// Writes the entry of a kind at node x, if there is one.
+fn node_entry(view: &View, kind: NodeKind, x: usize, writer: &mut Writer)
+    requires { (x < (table view.now).nodes) × (writer.old.count < 50000) }
+    ensures { Appends writer.old (entries_at (table view.now) (shown view.now) (node_number kind) x) 1 writer.new }
+{
+    if automaton::node_possible(view, kind, x) {
+        writer.push(kind as u8, x as u8, 255);
+    }
+}
+
+// Writes the entries of a kind at nodes.
 fn node_entries(view: &View, kind: NodeKind, writer: &mut Writer)
     requires { writer.old.count < 40000 }
     ensures { Appends writer.old (entries_of (table view.now) (shown view.now) (node_number kind)) 63 writer.new }
 {
     for x in 0..view.cabling.nodes() {
-        if automaton::node_possible(view, kind, x) {
-            writer.push(kind as u8, x as u8, 255);
-        }
+        node_entry(view, kind, x, writer);
     }
 }
 
@@ -66,7 +74,8 @@ fn note_link(links: &mut [Option<u8>], x: usize, i: u8, a: usize, b: usize)
     ensures { links.new ≡ noted links.old x i a b }
 {
     if (a == x) | (b == x) {
-        links[if a == x { b } else { a }] = Some(i);
+        let y = if a == x { b } else { a };
+        links[y] = Some(i);
     }
 }
 
@@ -80,7 +89,13 @@ fn links_from(cabling: &Cabling, x: usize) -> [Option<u8>; 64]
             link: i,
             back: false,
         };
-        note_link(&mut links, x, i as u8, cabling.source(forth), cabling.target(forth));
+        note_link(
+            &mut links,
+            x,
+            i as u8,
+            cabling.source(forth),
+            cabling.target(forth),
+        );
     }
     links
 }
@@ -126,7 +141,7 @@ fn link_entries_from(view: &View, kind: LinkKind, x: usize, writer: &mut Writer)
     }
 }
 
-// Writes the entries of a kind on links. No step of contention's end goes from a node that does not contend.
+// Writes the entries of a kind on links. A node that does not contend has none to resolve.
 fn link_entries(view: &View, kind: LinkKind, writer: &mut Writer)
     requires { writer.old.count < 40000 }
     ensures { Appends writer.old (entries_of (table view.now) (shown view.now) (link_number kind)) 3969 writer.new }

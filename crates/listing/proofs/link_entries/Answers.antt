@@ -17,8 +17,9 @@ loop-x-preserved c =
     let now = c.loop-x in
     let view = c.args.view.now in
     elim c.if-ne.branch [
-      then-ne w ↦ rw w.writer-is (appends_next 63 now.x _ now.invariant w.link_entries_from.ensures)
-    | else-ne+else-contending w ↦
-        let resolve : c.args.kind ≡ Resolve = search rules in
-        let rests : (shown view).contending now.x ≡ false = search rules in
-        rw w.writer-is (appends_same 63 now.x _ now.invariant (rw (ap link_number resolve) (none_of_four (table view) (shown view) now.x rests))) ]
+      | then-ne w ↦ rw w.writer-is (appends_next 63 now.x _ now.invariant w.link_entries_from.ensures)
+      | else-ne+else-contending w ↦
+          let resolve : c.args.kind ≡ Resolve = search rules in
+          let rests : (shown view).contending now.x ≡ false = search rules in
+          rw w.writer-is (appends_same 63 now.x _ now.invariant (rw (ap link_number resolve) (none_of_four (table view) (shown view) now.x rests)))
+    ]

@@ -21,8 +21,9 @@ loop-y-preserved c =
     let noted = c.links_from-links.ensures in
     let at_y = link_entry (table view) (shown view) (link_number kind) c.args.x (lent view).table.nodes_fit c.requires.0 (search rules) (search rules) now.y _ (omega arith) (noted_all noted now.y (omega arith)) (noted.links now.y (omega arith)) in
     elim c.if-may_list.branch [
-      then-may_list w ↦ rw w.writer-is (appends_next 1 now.y _ now.invariant (appends_as (rw (at_y, ← w.if-may_list.ensures) (search rules)) w.push.ensures))
-    | else-may_list w ↦ rw w.writer-is (appends_same 1 now.y _ now.invariant (rw (at_y, ← w.if-may_list.ensures))) ]
+      | then-may_list w ↦ rw w.writer-is (appends_next 1 now.y _ now.invariant (appends_as (rw (at_y, ← w.if-may_list.ensures) (search rules)) w.push.ensures))
+      | else-may_list w ↦ rw w.writer-is (appends_same 1 now.y _ now.invariant (rw (at_y, ← w.if-may_list.ensures)))
+    ]
 
 pub returns : goal.returns
 returns c =

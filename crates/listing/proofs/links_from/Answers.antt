@@ -20,6 +20,6 @@ loop-i-preserved c =
     let below : i < t.links = omega arith in
     let before : now.i ≡ i + 1 = omega arith in
     rw (c.note_link.ensures, c.source.ensures.0, c.target.ensures.0) (noted_more t x i now.links below (known.no_self i below)
-      (omega (arith, known.ends i false below, known.nodes_fit))
-      (omega (arith, known.ends i true below, known.nodes_fit))
-      (subst (λ (k : ℕ). Noted t x k now.links) before now.invariant))
+    (omega (arith, known.ends i false below, known.nodes_fit))
+    (omega (arith, known.ends i true below, known.nodes_fit))
+    (subst (λ (k : ℕ). Noted t x k now.links) before now.invariant))
