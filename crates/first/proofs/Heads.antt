@@ -1,8 +1,9 @@
 -- The first of all possible steps is the one with which the list begins.
-use Rattle.std.proofs.Common.{ℕ, suc, ◌<◌, ◌≤◌, true, false, List, [], ◌∷◌, Option, None, Some, ◌≡◌, refl, ◌∙◌, inl, inr, ◌⊎◌, arith}
+use Rattle.std.proofs.Common.{ℕ, suc, ◌≤◌, true, List, [], ◌∷◌, Option, None, Some, ◌≡◌, refl, ◌∙◌, inl, inr, arith}
 use mathlib.Core.Path.{subst⁻¹}
-use Rattle.counting.proofs.Booleans.{either, clash}
-use Rattle.paper.specs.Table.{Table, EndsBelow}
+use Rattle.std.proofs.lemmas.Bool.{false_from_ne_true}
+use Rattle.counting.proofs.Booleans.{clash}
+use Rattle.paper.specs.Table.{Table}
 use Rattle.paper.specs.State.{State}
 use Rattle.paper.specs.Steps.{Step as Taken, children_known, add_child, acknowledge, resolve, become_root, possible}
 use Rattle.paper.specs.Report.{moving}
@@ -17,7 +18,7 @@ use Rattle.upload.specs.declared.step.Step.{Step}
 use Rattle.first.specs.Leads.{Begins, Leads}
 use Rattle.marks.specs.Shown.{table, shown}
 use Rattle.marks.specs.declared.View.{View}
-use Rattle.first.specs.Least.{rank, NoneOf, First, Least}
+use Rattle.first.specs.Least.{NoneOf, First, Least}
 use Rattle.first.proofs.Order.{none_behind, first_behind, first_before}
 
 -- the five kinds are all
@@ -58,16 +59,12 @@ module _ (t : Table) (s : State) (lists : ListsSteps t s) where
       go (a ∷ b ∷ c ∷ rest) e h (inr p) =
           let here = named t s a b c ((lists.exactly a b c).0 (subst⁻¹ (Stands a b c) e (inl (refl, refl, refl)))) in
           let own = lists.once here.0 a b c here.1 in
-          let least = first.least here.0 here.2 (kinds here.0).0 (kinds here.0).1 in
+          let least = first.least here.0 (kinds here.0).0 (kinds here.0).1 here.2 in
           let behind = stands_from (suc (three a b c)) (three 6 0 0) rest (kind_of x) (first_of t x) (second_of t x) h.1 p in
           absurd (omega (arith, own.0, own.1, own.2, least, behind))
 
   none_listed : NoneOf t s 1 5 → listed t s ≡ []
-  none_listed h = lists.empty.1 (go (either (moving t s)))
-    where
-      go : (moving t s ≡ true) ⊎ (moving t s ≡ false) → moving t s ≡ false
-      go (inl e) = let found = moving_step t s e in absurd (h.none found.0 found.1 (kinds found.0).0 (kinds found.0).1)
-      go (inr e) = e
+  none_listed h = lists.empty.1 (false_from_ne_true (moving t s) (λ e. let found = moving_step t s e in clash found.1 (h.none found.0 (kinds found.0).0 (kinds found.0).1)))
 
 module _ (v : View) where
   lists : ListsSteps (table v) (shown v)
@@ -76,10 +73,11 @@ module _ (v : View) where
       lists_steps (table v) (shown v) (omega (arith, passes.nodes_fit)) passes.ends passes.no_self passes.no_repeat
 
   -- the first of the kinds to high, which lie before the others
-  pub heads : {x : Taken} {high : ℕ} → high ≤ 5 → First (table v) (shown v) 1 high x → Begins (table v) (listed (table v) (shown v)) x
-  heads {x} more first = begins (table v) (shown v) lists x (first_before v.cabling.passes.nodes_fit v.cabling.passes.ends more first)
+  pub heads : (x : Step) {high : ℕ} → high ≤ 5 → First (table v) (shown v) 1 high (meant x) → Leads (table v) (listed (table v) (shown v)) (Some x)
+  heads x more first =
+      begins (table v) (shown v) lists (meant x) (first_before v.cabling.passes.nodes_fit v.cabling.passes.ends more first)
 
   -- the step found last, or none
   pub leads : (r : Option Step) → NoneOf (table v) (shown v) 1 4 → Least (table v) (shown v) 5 5 r → Leads (table v) (listed (table v) (shown v)) r
   leads None before last = none_listed (table v) (shown v) lists (none_behind before last)
-  leads (Some x) before last = heads (omega arith) (first_behind (omega arith) before last)
+  leads (Some x) before last = heads x (omega arith) (first_behind (omega arith) before last)

@@ -1,5 +1,7 @@
 pub mod OfKind
-pub mod Order
-pub mod Heads
 pub mod Nodes
 pub mod Links
+pub mod Order
+pub mod Heads
+pub mod Led
+pub mod Unique

@@ -7,7 +7,8 @@ ghost use Rattle.paper.specs.Actions.{listed};
 ghost use Rattle.upload.specs.Kinds.{node_number, link_number};
 ghost use Rattle.marks.specs.Shown.{table, shown};
 ghost use Rattle.first.specs.Leads.{Leads};
-ghost use Rattle.first.specs.Least.{Least, pair};
+ghost use Rattle.first.specs.Least.{Least};
+ghost use Rattle.first.specs.Places.{pair};
 
 use marks::View;
 use upload::Direction;
@@ -18,7 +19,7 @@ fn first_at_nodes(view: &View, kind: NodeKind) -> Option<Step>
     ensures { Least (table view.now) (shown view.now) (node_number kind) (node_number kind) result }
 {
     (0..view.cabling.nodes())
-        .find(|x| automaton::node_possible(view, kind, *x))
+        .find(|&x| automaton::node_possible(view, kind, x))
         .map(|x| Step::Node(kind, x))
 }
 

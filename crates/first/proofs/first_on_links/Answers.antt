@@ -13,8 +13,8 @@ loop-back-preserved c =
     let h = c.loop-back-test.true in
     let before = c.loop-back.invariant in
     elim c.if-link_possible.branch [
-      then-link_possible+then-is_none_or w ↦
-        rw w.first-is (nearest_take t s c.args.kind i k h _ _ w.pair-here.ensures (sym c.link_possible.ensures ∙ w.if-link_possible.true) (search rules) before)
+      | then-link_possible+then-is_none_or w ↦
+          rw w.first-is (nearest_take t s c.args.kind i k h _ _ w.pair-here.ensures (sym c.link_possible.ensures ∙ w.if-link_possible.true) (search rules) before)
       | then-link_possible+else-is_none_or w ↦ rw w.first-is (nearest_keep t s c.args.kind i k h c.loop-back.first (search rules) before)
       | else-link_possible w ↦ rw w.first-is (nearest_pass t s c.args.kind i k h _ (sym c.link_possible.ensures ∙ w.if-link_possible.false) before)
     ]

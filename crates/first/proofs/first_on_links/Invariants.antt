@@ -1,6 +1,6 @@
 use Rattle.std.proofs.Common.{◌+◌, ◌*◌}
 use Rattle.marks.specs.Shown.{table, shown}
-use Rattle.first.specs.Least.{Nearest}
+use Rattle.first.specs.Places.{Nearest}
 use Rattle.first.proofs.first_on_links.Given as goal
 
 abbrev pub invariant-loop-link : goal.invariant-loop-link
