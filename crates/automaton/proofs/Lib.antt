@@ -1,5 +1,5 @@
 pub mod Possible
-pub mod More
+pub mod Lacking
 pub mod Taken
 pub mod Found
 pub mod Counted

@@ -2,7 +2,7 @@
 
 #![tactic(auto)]
 
-ghost use Rattle.std.specs.Prelude.{◌≡◌, ◌<◌, ◌≤◌, ◌||◌, leb, true};
+ghost use Rattle.std.specs.Prelude.{◌≡◌, ◌<◌, ◌≤◌, leb, true};
 ghost use Rattle.counting.specs.Count.{some};
 ghost use Rattle.paper.specs.Steps.{unheard, possible};
 ghost use Rattle.paper.specs.Actions.{link_between, node_step, link_step, read_node, read_link};
@@ -38,7 +38,7 @@ fn lacking_on(view: &View, x: usize, i: usize) -> usize
 }
 
 // At most so many directions into x lack child.
-#[tactic(auto, using(counting::proofs::Sums::sum_empty, counting::proofs::Sums::sum_more, crate::proofs::More::lacking_none))]
+#[tactic(auto, using(counting::proofs::Sums::sum_empty, counting::proofs::Sums::sum_more, crate::proofs::Lacking::lacking_none))]
 fn unheard_within(view: &View, x: usize, few: usize) -> bool
     ensures { result ≡ leb (unheard (table view.now) (shown view.now) x) few }
 {
@@ -83,7 +83,7 @@ pub fn link_possible(view: &View, kind: LinkKind, d: Direction) -> bool
 // Why an action cannot be taken.
 #[derive(Clone, Copy, PartialEq, Eq)]
 pub enum Refused {
-    // it names no node where it has to, or a second one where it may not
+    // it has no kind, names no node where it has to, or names a second one where it may not
     Unread,
     // no link joins the two nodes that it names
     NoLink,
