@@ -12,14 +12,11 @@ use lib.ListN.{length, set, take, drop, length-set, length-take, length-drop}
 use lib.Seq.{ext_get_or, get_or-take, get_or-drop, get_or-set_other}
 use Rattle.paper.specs.Upload.{byte_at, four_at}
 use Rattle.paper.specs.Refusals.{refusal}
-use Rattle.paper.specs.Calls.{refused_with, replay_behind}
+use Rattle.paper.specs.Calls.{replay_behind}
 use Rattle.paper.specs.Batch.{header_end, count_of, offset_of, length_of, part_of, header_wrong, span_outside, entry_answer, answers_of}
 use Rattle.paper.specs.Lines.{digit, digits, decimal, space, newline, line_of, text_of}
 use Rattle.lines.proofs.Ordered.{lines_joined}
 use Rattle.batch.specs.Independent.{HeaderFirst, SpanNext, PartReplayed, EqualParts, NothingElse, ByteOutside, LineEach, LineEnds, Independent, newlines}
-use Rattle.batch.specs.declared.Refusal.{Refusal}
-use Rattle.batch.specs.declared.Refusal.TheVariants.{Header, Span}
-use Rattle.batch.specs.Refusal.{RefusedBy, number_of}
 use Rattle.batch.proofs.Tests.{span_inside}
 
 pub header_first : HeaderFirst
@@ -33,11 +30,6 @@ span_next batch i e f = rw (e, f)
 pub part_replayed : PartReplayed
 unfolding entry_answer
 part_replayed batch i e f = rw (e, f)
-
--- an entry is refused by its refusal's number
-pub refused_answer : (batch : List ℕ) (i : ℕ) (refusal : Refusal) → RefusedBy batch i refusal → refused_with (record { number = number_of refusal; place = 0 }) ≡ entry_answer batch i
-refused_answer batch i Header e = sym (header_first batch i e)
-refused_answer batch i Span e = sym (span_next batch i e.0 e.1)
 
 pub equal_parts : EqualParts
 equal_parts batch other i j e e' f f' p =

@@ -8,8 +8,3 @@ use Rattle.batch.specs.declared.Refusal.TheVariants.{Header, Span}
 abbrev pub RefusedBy : List ℕ → ℕ → Refusal → Type 0
 RefusedBy batch number Header = header_wrong batch ≡ true
 RefusedBy batch number Span = (header_wrong batch ≡ false) × (span_outside batch number ≡ true)
-
--- its number
-abbrev pub number_of : Refusal → ℕ
-number_of Header = 1
-number_of Span = 2

@@ -4,7 +4,7 @@
 
 ghost use Rattle.std.specs.Prelude.{◌≡◌, false, true, ◌+◌, ◌*◌, ◌<◌, ◌≤◌, ◌^◌, length, take, MatchResult};
 ghost use Rattle.paper.specs.Upload.{four_at};
-ghost use Rattle.paper.specs.Batch.{count_of, offset_of, length_of, header_wrong, span_outside, part_of, entry_answer};
+ghost use Rattle.paper.specs.Batch.{count_of, header_wrong, span_outside, part_of, entry_answer};
 ghost use Rattle.paper.specs.Lines.{lines_from, lines_answer, lines_buffer};
 ghost use Rattle.counting.specs.Count.{list_of};
 ghost use Rattle.lines.specs.Output.{Output};
@@ -27,25 +27,11 @@ fn four(batch: &[u8], at: usize) -> usize
     u32::from_be_bytes([batch[at], batch[at + 1], batch[at + 2], batch[at + 3]]) as usize
 }
 
-// Where an entry's span starts.
-fn offset(batch: &[u8], number: usize) -> usize
-    requires { 12 + 8 * number ≤ length batch.now }
-    ensures { (result ≡ offset_of batch.now number) × (result < 2 ^ 32) }
-{
-    four(batch, 4 + 8 * number)
-}
-
-// How long an entry's span is.
-fn length(batch: &[u8], number: usize) -> usize
-    requires { 12 + 8 * number ≤ length batch.now }
-    ensures { (result ≡ length_of batch.now number) × (result < 2 ^ 32) }
-{
-    four(batch, 8 + 8 * number)
-}
-
 // c, the number of entries: 1 to 64, all inside a batch of 4 to 65,536 bytes.
 fn count(batch: &[u8]) -> Result<usize, Refusal>
-    ensures { MatchResult result (λ c. (header_wrong batch.now ≡ false) × (c ≡ count_of batch.now)) (λ e. (e ≡ Refusal.Header) × (header_wrong batch.now ≡ true)) }
+    ensures { MatchResult result
+        (λ c. (header_wrong batch.now ≡ false) × (c ≡ count_of batch.now))
+        (λ e. (e ≡ Refusal.Header) × (header_wrong batch.now ≡ true)) }
 {
     let size = batch.len();
     if size < 4 {
@@ -60,14 +46,16 @@ fn count(batch: &[u8]) -> Result<usize, Refusal>
 
 // The part of the batch that an entry names, and nothing else of it: its span starts behind the header, and ends inside the batch.
 fn part(batch: &[u8], number: usize) -> Result<&[u8], Refusal>
-    ensures { MatchResult result (λ part. (header_wrong batch.now ≡ false) × (span_outside batch.now number ≡ false) × (part.now ≡ part_of batch.now number)) (RefusedBy batch.now number) }
+    ensures { MatchResult result
+        (λ part. (header_wrong batch.now ≡ false) × (span_outside batch.now number ≡ false) × (part.now ≡ part_of batch.now number))
+        (RefusedBy batch.now number) }
 {
     let entries = count(batch)?;
     if entries <= number {
         return Err(Refusal::Span);
     }
-    let start = offset(batch, number);
-    let end = start + length(batch, number);
+    let start = four(batch, 4 + 8 * number);
+    let end = start + four(batch, 8 + 8 * number);
     if (start < 4 + 8 * entries) | (batch.len() < end) {
         return Err(Refusal::Span);
     }
@@ -100,7 +88,7 @@ fn accepted_lines(batch: &[u8], entries: usize, out: &mut [u8]) -> Answer
     requires { entries ≤ 64 }
     ensures { Output (lines_from 0 (list_of entries (entry_answer batch.now))) out.old out.new result }
 {
-    let mut answers = [Answer::refused(Refusal::Span as u8, 0); 64];
+    let mut answers = [Answer::refused(0, 0); 64];
     entry_lines(batch, &mut answers[..entries], out)
 }
 

@@ -4,13 +4,14 @@
 
 ghost use Rattle.std.specs.Prelude.{◌≡◌, length, take, ◌<◌, ◌≤◌};
 ghost use Rattle.saved.specs.Placed.{Placed, Joins, text_of};
-ghost use Rattle.saved.specs.Saved.{too_long, wide, answer_line, unopened_line, unread_line, too_long_line, progress_line, totals_line};
+ghost use Rattle.saved.specs.Saved.{too_long, answer_line, unopened_line, unread_line, too_long_line, progress_line, totals_line};
 ghost use Rattle.paper.specs.Lines.{line_of};
 
 use paper::Answer;
 use std::slice;
 
 // Some texts, one behind another, where there is room for all of them: how many bytes they are.
+// Their lengths are taken off the room in turn, and not summed: nothing promises that the sum fits its type.
 fn joined(texts: &[&[u8]], out: &mut [u8]) -> Option<usize>
     ensures { Joins (text_of texts.now) out.old out.new result }
 {
@@ -82,34 +83,26 @@ pub fn answer_line(name: &[u8], upload: &[u8], out: &mut [u8]) -> usize
     line(&[name, &text[1..n]], out)
 }
 
-// A number in decimal, in an array.
-fn spelled(k: u64, digits: &mut [u8; 20]) -> &[u8]
-    ensures { result.now ≡ wide k }
-{
-    let n = io::decimal(k, digits);
-    &digits[..n]
-}
-
 // How far it has come: a number of files.
 pub fn progress_line(files: u64, out: &mut [u8]) -> usize
     ensures { Placed (progress_line files) out.old out.new result }
 {
-    let mut digits = [0; 20];
-    line(&[spelled(files, &mut digits), b" files\n"], out)
+    line(
+        &[itoa::Buffer::new().format(files).as_bytes(), b" files\n"],
+        out,
+    )
 }
 
 // The last line: how many files were answered, and how many were not read.
 pub fn totals_line(answered: u64, unread: u64, out: &mut [u8]) -> usize
     ensures { Placed (totals_line answered unread) out.old out.new result }
 {
-    let mut first = [0; 20];
-    let mut second = [0; 20];
     line(
         &[
             b"answered ",
-            spelled(answered, &mut first),
+            itoa::Buffer::new().format(answered).as_bytes(),
             b", not read ",
-            spelled(unread, &mut second),
+            itoa::Buffer::new().format(unread).as_bytes(),
             b"\n",
         ],
         out,

@@ -17,12 +17,12 @@ returns-then-entries-number c =
     let accepted = c.in_ok-entries.ensures in
     (accepted.0, rw (le-leb (count_of c.args.batch.now) c.args.number (omega (arith, accepted.1))))
 
-pub offset-start-requires : goal.offset-start-requires
-offset-start-requires c =
+pub four-start-requires : goal.four-start-requires
+four-start-requires c =
     omega (arith, (header_right _ c.in_ok-entries.ensures.0).entries, c.in_ok-entries.ensures.1)
 
-pub length-requires : goal.length-requires
-length-requires c =
+pub four-requires : goal.four-requires
+four-requires c =
     omega (arith, (header_right _ c.in_ok-entries.ensures.0).entries, c.in_ok-entries.ensures.1)
 
 pub returns-then-start-entries : goal.returns-then-start-entries
@@ -30,7 +30,7 @@ unfolding span_outside
 returns-then-start-entries c =
     let accepted = c.in_ok-entries.ensures in (
       accepted.0,
-      rw (lt-leb (count_of c.args.batch.now) c.args.number (omega (arith, accepted.1)), ← accepted.1, ← c.offset-start.ensures.0, ← c.length.ensures.0)
+      rw (lt-leb (count_of c.args.batch.now) c.args.number (omega (arith, accepted.1)), ← accepted.1, ← c.four-start.ensures.0, ← c.four.ensures.0)
           c.if-start-entries.true,
     )
 
@@ -39,7 +39,7 @@ unfolding span_outside
 returns c =
     let accepted = c.in_ok-entries.ensures in (
       accepted.0,
-      rw (lt-leb (count_of c.args.batch.now) c.args.number (omega (arith, accepted.1)), ← accepted.1, ← c.offset-start.ensures.0, ← c.length.ensures.0)
+      rw (lt-leb (count_of c.args.batch.now) c.args.number (omega (arith, accepted.1)), ← accepted.1, ← c.four-start.ensures.0, ← c.four.ensures.0)
           c.if-start-entries.false,
-      rw (add-sub_cancel_left, c.offset-start.ensures.0, c.length.ensures.0),
+      rw (add-sub_cancel_left, c.four-start.ensures.0, c.four.ensures.0),
     )

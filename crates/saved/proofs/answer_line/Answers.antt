@@ -5,4 +5,4 @@ use Rattle.saved.proofs.answer_line.Goals as goal
 pub returns : goal.returns
 unfolding answer_line
 returns c =
-    rw (numbers_behind _ _ _ c.entry-n.ensures.1 c.entry-n.ensures.0, c.replay-answer.ensures) at c.line.ensures
+    rw (← c.replay-answer.ensures, ← numbers_behind _ _ _ c.entry-n.ensures.1 c.entry-n.ensures.0) c.line.ensures
