@@ -9,3 +9,4 @@ pub mod Readings
 pub mod Listed
 pub mod Decimal
 pub mod Examples
+pub mod Shown
