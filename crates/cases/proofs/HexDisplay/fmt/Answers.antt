@@ -14,4 +14,4 @@ loop-byte-preserved g c = λ p.
     let small : byte < 256 = search rules in
     let text : styled_digits_output c.in_radix.result c.laid_out.result ≡ Some (two_digits byte) = rw (c.laid_out.ensures, c.in_radix.ensures, hex_byte false byte small) in
     let wrote = rw text at c.in_ok-write.ensures.writes in
-    has_written_of_eq _ _ _ _ _ (flat_map-take bytes c.loop-byte.byte-index c.loop-byte-test.true) (has_written_append _ _ _ _ _ _ before (wrote before.plain refl))
+    has_written_of_eq g.W.Write.write_str_gives c.args.f.now _ _ c.write.new.self (flat_map-take bytes c.loop-byte.byte-index c.loop-byte-test.true) (has_written_append g.W.Write.write_str_gives c.args.f.now _ c.loop-byte.f _ c.write.new.self before (wrote before.plain refl))
