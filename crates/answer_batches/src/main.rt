@@ -3,33 +3,37 @@
 
 use std::io::{Print, Read};
 
-fn answer_one(
-    input: &mut impl Read,
-    out: &impl Print,
-    number: u64,
-    batch: &mut [u8],
-    text: &mut [u8],
-) -> bool {
-    let b = cases::block(cases::four(input), input, batch);
-    if !b.ok {
-        return false;
-    }
-    let n = b.n;
-    let answer = batch::lines(&batch[..n], text);
-    cases::print_heading(out, number);
-    cases::print_start(out, text, answer.steps as usize);
-    true
+// Room for a batch and for its lines.
+#[derive(Drop)]
+struct Room {
+    batch: [u8; 131072],
+    text: [u8; 2048],
 }
 
-fn answer_all(input: &mut impl Read, out: &impl Print, batch: &mut [u8], text: &mut [u8]) {
-    let mut number: u64 = 0;
-    while number < u64::MAX && answer_one(input, out, number, batch, text) {
-        number += 1;
+impl Room {
+    // Answers the next recorded batch, where there is one. A write that fails is passed over.
+    fn answer_one(&mut self, input: &mut impl Read, out: &impl Print, number: u64) -> Option<()> {
+        let batch = cases::block(cases::four(input)?, input, &mut self.batch)?;
+        let answer = batch::lines(batch, &mut self.text);
+        let _ = println!(out; "batch {number}");
+        if let Some(lines) = self.text.get(..usize::from(answer.steps)) {
+            let _ = out.write_all(lines);
+        }
+        Some(())
     }
 }
 
 fn main(rt: HostRuntime) {
-    let mut batch = [0u8; 131072];
-    let mut text = [0u8; 2048];
-    answer_all(&mut rt.stdin(), &rt.stdout(), &mut batch, &mut text);
+    let mut room = Room {
+        batch: [0; 131072],
+        text: [0; 2048],
+    };
+    for number in 0..u64::MAX {
+        if room
+            .answer_one(&mut rt.stdin(), &rt.stdout(), number)
+            .is_none()
+        {
+            break;
+        }
+    }
 }

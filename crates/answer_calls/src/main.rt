@@ -1,89 +1,54 @@
 // Answers recorded calls from standard input: for each the six numbers, and the bytes of the image and of the buffer afterwards.
 #![tactic(auto)]
 
+use cases::Hex;
+use paper::Answer;
 use std::io::{Print, Read};
 
-fn call(
-    which: u8,
-    kind: u8,
-    x: u8,
-    y: u8,
-    upload: &[u8],
-    image: &mut [u8],
-    buffer: &mut [u8],
-) -> paper::Answer {
-    match which {
-        1 => replay::fresh(upload, image),
-        2 => replay::report(upload, image),
-        3 => replay::list(upload, image, buffer),
-        4 => replay::step(upload, image, kind, x, y),
-        5 => replay::run(upload, image),
+// The call that a record's first four bytes name: its number, and the kind and the two nodes that a step takes.
+// The number is matched where it is read; an enum of the calls would be made here and matched here.
+fn call(head: [u8; 4], upload: &[u8], image: &mut [u8], buffer: &mut [u8]) -> Answer {
+    match head {
+        [1, ..] => replay::fresh(upload, image),
+        [2, ..] => replay::report(upload, image),
+        [3, ..] => replay::list(upload, image, buffer),
+        [4, kind, x, y] => replay::step(upload, image, kind, x, y),
+        [5, ..] => replay::run(upload, image),
         _ => replay::replay(upload),
     }
 }
 
-// Makes one call and prints what it answers and leaves.
-fn respond(out: &impl Print, head: [u8; 4], upload: &[u8], image: &mut [u8], buffer: &mut [u8]) {
-    let answer = call(head[0], head[1], head[2], head[3], upload, image, buffer);
-    cases::print_answer(out, answer);
-    cases::print_space(out);
-    cases::print_bytes(out, image);
-    cases::print_space(out);
-    cases::print_bytes(out, buffer);
-    cases::print_newline(out);
+// Room for what a call is lent.
+#[derive(Drop)]
+struct Room {
+    upload: [u8; 65535],
+    image: [u8; 65535],
+    buffer: [u8; 65535],
 }
 
-// Answers one call, and whether there was one.
-fn answer_one(
-    input: &mut impl Read,
-    out: &impl Print,
-    upload: &mut [u8],
-    image: &mut [u8],
-    buffer: &mut [u8],
-) -> bool {
-    let mut head = [0u8; 4];
-    let started = cases::filled(input, &mut head);
-    let u = cases::block(cases::two(input), input, upload);
-    let i = cases::block(cases::two(input), input, image);
-    let b = cases::block(cases::two(input), input, buffer);
-    if !(started & u.ok & i.ok & b.ok) {
-        return false;
-    }
-    let size = u.n;
-    let bytes = i.n;
-    let room = b.n;
-    respond(
-        out,
-        head,
-        &upload[..size],
-        &mut image[..bytes],
-        &mut buffer[..room],
-    );
-    true
-}
-
-fn answer_all(
-    input: &mut impl Read,
-    out: &impl Print,
-    upload: &mut [u8],
-    image: &mut [u8],
-    buffer: &mut [u8],
-) {
-    let mut turns = u64::MAX;
-    while turns > 0 && answer_one(input, out, upload, image, buffer) {
-        turns -= 1;
+impl Room {
+    // Makes the next recorded call, where there is one, and prints what it answers and leaves. A write that fails is passed over.
+    fn answer_one(&mut self, input: &mut impl Read, out: &impl Print) -> Option<()> {
+        let mut head = [0u8; 4];
+        input.read_exact(&mut head).ok()?;
+        let upload = cases::block(cases::two(input)?, input, &mut self.upload)?;
+        let image = cases::block(cases::two(input)?, input, &mut self.image)?;
+        let buffer = cases::block(cases::two(input)?, input, &mut self.buffer)?;
+        let answer = call(head, upload, image, buffer);
+        let _ = println!(out; "{answer} {} {}", Hex(image), Hex(buffer));
+        Some(())
     }
 }
 
 fn main(rt: HostRuntime) {
-    let mut upload = [0u8; 65535];
-    let mut image = [0u8; 65535];
-    let mut buffer = [0u8; 65535];
-    answer_all(
-        &mut rt.stdin(),
-        &rt.stdout(),
-        &mut upload,
-        &mut image,
-        &mut buffer,
-    );
+    let mut room = Room {
+        upload: [0; 65535],
+        image: [0; 65535],
+        buffer: [0; 65535],
+    };
+    for _ in 0..u64::MAX {
+        if room.answer_one(&mut rt.stdin(), &rt.stdout()).is_none() {
+            break;
+        }
+    }
 }

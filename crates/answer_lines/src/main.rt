@@ -1,38 +1,35 @@
 // Answers recorded calls of `lines` from standard input: for each the six numbers, and the bytes of the buffer afterwards.
 #![tactic(auto)]
 
+use cases::Hex;
 use std::io::{Print, Read};
 
-fn answer_one(
-    input: &mut impl Read,
-    out: &impl Print,
-    batch: &mut [u8],
-    buffer: &mut [u8],
-) -> bool {
-    let b = cases::block(cases::four(input), input, batch);
-    let o = cases::block(cases::two(input), input, buffer);
-    if !(b.ok & o.ok) {
-        return false;
-    }
-    let n = b.n;
-    let room = o.n;
-    let answer = batch::lines(&batch[..n], &mut buffer[..room]);
-    cases::print_answer(out, answer);
-    cases::print_space(out);
-    cases::print_bytes(out, &buffer[..room]);
-    cases::print_newline(out);
-    true
+// Room for a batch and for the buffer that the call is lent.
+#[derive(Drop)]
+struct Room {
+    batch: [u8; 131072],
+    buffer: [u8; 65535],
 }
 
-fn answer_all(input: &mut impl Read, out: &impl Print, batch: &mut [u8], buffer: &mut [u8]) {
-    let mut turns = u64::MAX;
-    while turns > 0 && answer_one(input, out, batch, buffer) {
-        turns -= 1;
+impl Room {
+    // Makes the next recorded call, where there is one. A write that fails is passed over.
+    fn answer_one(&mut self, input: &mut impl Read, out: &impl Print) -> Option<()> {
+        let batch = cases::block(cases::four(input)?, input, &mut self.batch)?;
+        let buffer = cases::block(cases::two(input)?, input, &mut self.buffer)?;
+        let answer = batch::lines(batch, buffer);
+        let _ = println!(out; "{answer} {}", Hex(buffer));
+        Some(())
     }
 }
 
 fn main(rt: HostRuntime) {
-    let mut batch = [0u8; 131072];
-    let mut buffer = [0u8; 65535];
-    answer_all(&mut rt.stdin(), &rt.stdout(), &mut batch, &mut buffer);
+    let mut room = Room {
+        batch: [0; 131072],
+        buffer: [0; 65535],
+    };
+    for _ in 0..u64::MAX {
+        if room.answer_one(&mut rt.stdin(), &rt.stdout()).is_none() {
+            break;
+        }
+    }
 }

@@ -1,120 +1,81 @@
-// Reads recorded cases from standard input and prints answers and bytes: what the comparison programs share.
-// A function takes the input or the output that it uses, in a program standard input or output. A write that fails is passed over.
+// What the programs share: reading into buffers that they lend, the parts of recorded cases, and bytes as they are shown.
 #![tactic(auto)]
 
-ghost use Rattle.std.specs.Prelude.{◌<◌, ◌≤◌, length};
+ghost use Rattle.std.specs.Prelude.{◌≡◌, ◌<◌, ◌≤◌, ◌^◌, length, take, IfOk, IfSome, Some};
+ghost use Rattle.std.specs.Int.{w16, w32, to_be_bytes};
+ghost use Rattle.std.specs.Io.KnownBytes.{Consumes, IsAtEnd};
+ghost use Rattle.cases.specs.Shown.{hexadecimal};
 
-use std::io::{Print, Read};
+use std::io::Read;
+use std::{fmt, io};
 
-// A length that was read, or that there is none.
-#[derive(Clone, Copy)]
-pub struct Size {
-    pub ok: bool,
-    pub n: usize,
-}
-
-// Fills the buffer; false where the input ends before, or a read fails.
-pub fn filled(input: &mut impl Read, buffer: &mut [u8]) -> bool {
-    input.read_exact(buffer).is_ok()
-}
-
-fn wide(b: u8) -> usize
-    ensures { result < 256 }
+// Reads until the input ends or the buffer is full, and answers how many bytes came to the buffer's start. Where a read fails, so does this.
+pub fn filled<R: Read>(input: &mut R, buffer: &mut [u8]) -> io::Result<usize>
+    ensures bound { IfOk result (λ n. n ≤ length buffer.new) }
+    ensures bytes { IfOk result (λ n. Consumes (R.remaining input.old) (R.remaining input.new) (take n buffer.new)) }
+    ensures end { IfOk result (λ n. n < length buffer.new → IsAtEnd (R.remaining input.new)) }
 {
-    b as usize
-}
-
-// A length of two bytes, high byte first.
-pub fn two(input: &mut impl Read) -> Size
-    ensures { result.n < 65536 }
-{
-    let mut b = [0u8; 2];
-    let ok = filled(input, &mut b);
-    Size {
-        ok: ok,
-        n: 256 * wide(b[0]) + wide(b[1]),
+    // no method of the library does this without a heap: read_to_end fills a Vec, and of read_exact an end too early has no count
+    let mut done = 0;
+    while done < buffer.len() {
+        match input.read(&mut buffer[done..])? {
+            0 => break,
+            n => done += n,
+        }
     }
+    Ok(done)
+}
+
+// The next N bytes, where the input has as many.
+fn next<const N: usize, R: Read>(input: &mut R) -> Option<[u8; N]>
+    ensures { IfSome result (Consumes (R.remaining input.old) (R.remaining input.new)) }
+{
+    let mut bytes = [0u8; N];
+    input.read_exact(&mut bytes).ok()?;
+    Some(bytes)
+}
+
+// A length of two bytes, high byte first. It and the next are two functions because from_be_bytes is a method of each type of number, and of no trait.
+pub fn two<R: Read>(input: &mut R) -> Option<usize>
+    ensures bound { IfSome result (λ n. n < 2 ^ 16) }
+    ensures bytes { IfSome result (λ n. Consumes (R.remaining input.old) (R.remaining input.new) (to_be_bytes w16 n)) }
+{
+    Some(usize::from(u16::from_be_bytes(next(input)?)))
 }
 
 // A length of four bytes, high byte first.
-pub fn four(input: &mut impl Read) -> Size {
-    let high = two(input);
-    let low = two(input);
-    Size {
-        ok: high.ok & low.ok,
-        n: 65536 * high.n + low.n,
-    }
-}
-
-// Reads as many bytes as a size says to the start of the buffer.
-pub fn block(size: Size, input: &mut impl Read, buffer: &mut [u8]) -> Size
-    ensures { result.n ≤ length buffer.old }
+pub fn four<R: Read>(input: &mut R) -> Option<usize>
+    ensures bound { IfSome result (λ n. n < 2 ^ 32) }
+    ensures bytes { IfSome result (λ n. Consumes (R.remaining input.old) (R.remaining input.new) (to_be_bytes w32 n)) }
 {
-    let n = size.n;
-    if !size.ok {
-        return Size { ok: false, n: 0 };
-    }
-    if buffer.len() < n {
-        return Size { ok: false, n: 0 };
-    }
-    let ok = filled(input, &mut buffer[..n]);
-    Size { ok: ok, n: n }
+    Some(u32::from_be_bytes(next(input)?) as usize)
 }
 
-fn print(out: &impl Print, bytes: &[u8]) {
-    let _ = out.write_all(bytes);
+// The next bytes, as many as a size says, at the start of the buffer: where it has room for them and the input has them.
+pub fn block<'a, R: Read>(size: usize, input: &mut R, buffer: &'a mut [u8]) -> Option<&'a mut [u8]>
+    ensures room { IfSome result (λ bytes. size ≤ length buffer.old) }
+    ensures size { IfSome result (λ bytes. length bytes.now ≡ size) }
+    ensures bytes { IfSome result (λ bytes. Consumes (R.remaining input.old) (R.remaining input.new) bytes.now) }
+{
+    let bytes = buffer.get_mut(..size)?;
+    input.read_exact(bytes).ok()?;
+    Some(bytes)
 }
 
-fn print_number(out: &impl Print, n: u64) {
-    let _ = out.print(n);
-}
+// Bytes, shown in hexadecimal, or as a dash where there is none.
+#[derive(Clone, Copy)]
+pub struct Hex<'a>(pub &'a [u8]);
 
-pub fn print_space(out: &impl Print) {
-    print(out, &[b' ']);
-}
+impl fmt::Display for Hex<'_> {
+    ghost output = { λ h. Some (hexadecimal h.0.now) };
 
-pub fn print_newline(out: &impl Print) {
-    print(out, &[b'\n']);
-}
-
-// The six numbers, one space between.
-pub fn print_answer(out: &impl Print, a: paper::Answer) {
-    print_number(out, a.refusal as u64);
-    print_space(out);
-    print_number(out, a.place as u64);
-    print_space(out);
-    print_number(out, a.steps as u64);
-    print_space(out);
-    print_number(out, a.outcome as u64);
-    print_space(out);
-    print_number(out, a.root as u64);
-    print_space(out);
-    print_number(out, a.waiting as u64);
-}
-
-// The number of a batch, on a line.
-pub fn print_heading(out: &impl Print, number: u64) {
-    print(out, b"batch ");
-    print_number(out, number);
-    print_newline(out);
-}
-
-// The first bytes of a text, as they are.
-pub fn print_start(out: &impl Print, text: &[u8], n: usize) {
-    if n <= text.len() {
-        print(out, &text[..n]);
-    }
-}
-
-// Bytes in hexadecimal, or a dash where there is none.
-pub fn print_bytes(out: &impl Print, bytes: &[u8]) {
-    if bytes.len() == 0 {
-        print(out, &[b'-']);
-        return;
-    }
-    let mut i = 0;
-    while i < bytes.len() {
-        let _ = print!(out; "{:02x}", bytes[i]);
-        i += 1;
+    fn fmt<W: fmt::Write>(&self, f: &mut fmt::Formatter<W>) -> fmt::Result {
+        if self.0.is_empty() {
+            return f.write_str("-");
+        }
+        for &byte in self.0 {
+            write!(f, "{byte:02x}")?;
+        }
+        Ok(())
     }
 }

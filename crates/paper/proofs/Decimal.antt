@@ -11,7 +11,7 @@ use Rattle.paper.specs.Lines.{digit, digits, decimal}
 use Rattle.paper.specs.Meanings.{Digits, value_from, InDecimal}
 
 -- the bound on a number of so many digits and one
-abbrev bound : ℕ → ℕ
+abbrev pub bound : ℕ → ℕ
 bound zero = 10
 bound (suc more) = 10 * bound more
 

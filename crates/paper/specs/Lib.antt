@@ -11,6 +11,7 @@ pub mod Refusals
 pub mod Calls
 pub mod Batch
 pub mod Lines
+pub mod Shown
 pub mod Meanings
 pub mod Published
 pub mod Replays

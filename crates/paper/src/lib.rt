@@ -1,11 +1,15 @@
-// Document 01 as definitions, with the published automaton beside it and the replays P1 to P12: no code.
+// Document 01 as definitions, with the published automaton beside it and the replays P1 to P12; and the answer of every call.
 
 #![tactic(auto)]
 
+<<<<<<< HEAD
 mod refused;
+=======
+use std::fmt;
+>>>>>>> cb329bf5cc8695c7a89f5d9ddef43dc6729baed9
 
 // What every call answers: the six numbers of document 01, in its order.
-#[derive(Clone, Copy)]
+#[derive(Clone, Copy, Debug, PartialEq, Eq)]
 pub struct Answer {
     pub refusal: u8,
     pub place: u16,
@@ -13,4 +17,24 @@ pub struct Answer {
     pub outcome: u8,
     pub root: u8,
     pub waiting: u8,
+}
+
+// The six numbers in decimal, one space between.
+impl fmt::Display for Answer {
+    ghost use Rattle.std.specs.Prelude.{Some};
+    ghost use Rattle.paper.specs.Shown.{shown};
+
+    ghost output = { λ a. Some (shown a) };
+
+    fn fmt<W: fmt::Write>(&self, f: &mut fmt::Formatter<W>) -> fmt::Result {
+        let Answer {
+            refusal,
+            place,
+            steps,
+            outcome,
+            root,
+            waiting,
+        } = *self;
+        write!(f, "{refusal} {place} {steps} {outcome} {root} {waiting}")
+    }
 }

@@ -2,256 +2,170 @@
 // It prints a line for each file, and a last line that counts them.
 #![tactic(auto)]
 
-ghost use Rattle.std.specs.Prelude.{◌+◌, ◌≤◌, length};
+ghost use Rattle.std.specs.Prelude.{◌≡◌, ◌≤◌, false, length, IfOk, IfSome, IsErrOf};
+ghost use Rattle.saved.specs.Placed.{Placed};
+ghost use Rattle.saved.specs.Saved.{too_long, answer_line, unopened_line, unread_line, too_long_line};
 
 use std::env::FillError;
+use std::fmt;
 use std::fs::File;
-use std::io::{Print, Read};
+use std::io::Print;
 use std::rt::{Env, Files};
 
-// What reading came to: whether it failed, and how many bytes it brought.
+// Why a file is not answered.
+#[derive(Clone, Copy, Debug, PartialEq, Eq)]
+enum Unanswered {
+    Unopened,
+    Unread,
+    TooLong,
+}
+
+// What could not be written.
+#[derive(Clone, Copy, Debug, PartialEq, Eq)]
+enum Fault {
+    Line,
+    Totals,
+}
+
+impl fmt::Display for Fault {
+    fn fmt<W: fmt::Write>(&self, f: &mut fmt::Formatter<W>) -> fmt::Result {
+        f.write_str(match self {
+            Fault::Line => "writing failed, the lines are not complete",
+            Fault::Totals => "writing failed, the last line is not there",
+        })
+    }
+}
+
+// Room for a name, which every argument that Linux passes has, for an upload and one byte more, and for a line about a name.
 #[derive(Drop)]
-struct Part {
-    failed: bool,
-    count: usize,
+struct Room {
+    name: [u8; 131072],
+    upload: [u8; 3329],
+    line: [u8; 131200],
 }
 
-// What became of a file: whether it was answered, and whether its line was written.
-#[derive(Drop)]
-struct Told {
-    answered: bool,
-    written: bool,
-}
-
-// One read into the bytes of the buffer from `done` on; 0 bytes at the end of the file.
-fn read_part(file: &mut impl Read, buffer: &mut [u8], done: usize) -> Part
-    requires { done ≤ length buffer.old }
-    ensures { done + result.count ≤ length buffer.old }
+// The bytes of an argument, at the start of the buffer: where there is such an argument and room for it.
+fn argument<'a>(rt: &impl Env, i: usize, buffer: &'a mut [u8]) -> Option<&'a [u8]>
+    ensures { IfSome result (λ bytes. length bytes.now ≤ length buffer.old) }
 {
-    match file.read(&mut buffer[done..]) {
-        Ok(count) => Part {
-            failed: false,
-            count: count,
-        },
-        Err(_) => Part {
-            failed: true,
-            count: 0,
-        },
-    }
-}
-
-// Reads until the file ends, the buffer is full or a read fails.
-fn read_file(file: &mut impl Read, buffer: &mut [u8]) -> Part
-    ensures { result.count ≤ length buffer.new }
-{
-    let mut done = 0;
-    while done < buffer.len() {
-        let part = read_part(file, buffer, done);
-        if part.failed {
-            return Part {
-                failed: true,
-                count: done,
-            };
-        }
-        if part.count == 0 {
-            return Part {
-                failed: false,
-                count: done,
-            };
-        }
-        done += part.count;
-    }
-    Part {
-        failed: false,
-        count: done,
-    }
-}
-
-// Writes the line that the first n bytes are; false where it is not written whole.
-fn write_line(to: &impl Print, line: &[u8], n: usize) -> bool {
-    if n == 0 {
-        return false;
-    }
-    if line.len() < n {
-        return false;
-    }
-    to.write_all(&line[..n]).is_ok()
-}
-
-// The line of a file that was read.
-fn answer_bytes(out: &impl Print, name: &[u8], bytes: &[u8], line: &mut [u8]) -> Told {
-    if saved::too_long(bytes) {
-        let n = saved::too_long_line(name, line);
-        return Told {
-            answered: false,
-            written: write_line(out, line, n),
-        };
-    }
-    let n = saved::answer_line(name, bytes, line);
-    Told {
-        answered: true,
-        written: write_line(out, line, n),
-    }
-}
-
-// The line of an open file: of one byte more than an upload may have, no more is read.
-fn answer_open(file: &mut impl Read, out: &impl Print, name: &[u8], line: &mut [u8]) -> Told {
-    let mut bytes = [0u8; 3329];
-    let read = read_file(file, &mut bytes);
-    if read.failed {
-        let n = saved::unread_line(name, line);
-        return Told {
-            answered: false,
-            written: write_line(out, line, n),
-        };
-    }
-    let n = read.count;
-    answer_bytes(out, name, &bytes[..n], line)
-}
-
-// The file of a name, where it can be opened. The library's paths are UTF-8 text, so a name that is not cannot be.
-fn open_read<R: Files>(rt: &R, name: &[u8]) -> Option<R::File> {
-    let path = std::str::from_utf8(name).ok()?;
-    File::open(rt, path).ok()
-}
-
-// The line of a file by its name.
-fn answer_file(rt: &impl Files, out: &impl Print, name: &[u8], line: &mut [u8]) -> Told {
-    match open_read(rt, name) {
-        Some(mut file) => answer_open(&mut file, out, name, line),
-        None => {
-            let n = saved::unopened_line(name, line);
-            Told {
-                answered: false,
-                written: write_line(out, line, n),
-            }
-        }
-    }
-}
-
-// Puts argument i at the start of the buffer and answers its length, or 0 where it is missing or has no room.
-fn arg(rt: &impl Env, i: usize, buffer: &mut [u8]) -> usize
-    ensures { result ≤ length buffer.new }
-{
-    match rt.arg(i, buffer) {
-        Ok(n) => n,
-        Err(_) => 0,
-    }
+    let n = rt.arg(i, buffer).ok()?;
+    Some(&buffer[..n])
 }
 
 // How many arguments there are, the program's own name among them.
-fn arg_count(rt: &impl Env) -> usize {
-    let mut byte = [0u8; 1];
-    let mut i = 0;
-    while i < usize::MAX {
-        if matches!(rt.arg(i, &mut byte), Err(FillError::NotPresent)) {
-            return i;
-        }
-        i += 1;
-    }
-    i
-}
-
-// The line of the file that an argument names.
-fn answer_argument(
-    rt: &(impl Env + Files),
-    out: &impl Print,
-    i: usize,
-    name: &mut [u8],
-    line: &mut [u8],
-) -> Told {
-    let n = arg(rt, i, name);
-    answer_file(rt, out, &name[..n], line)
-}
-
-// Every 1,000 files, says so on standard error.
-fn progress(err: &impl Print, quiet: bool, done: usize, line: &mut [u8]) {
-    if quiet | (done % 1000 != 0) {
-        return;
-    }
-    let n = saved::progress_line(done as u64, line);
-    write_line(err, line, n);
-}
-
-// Says on standard error what went wrong.
-fn complain(err: &impl Print, text: &[u8]) {
-    let _ = err.write_all(text);
-}
-
-// The last line.
-fn print_totals(
-    out: &impl Print,
-    err: &impl Print,
-    answered: usize,
-    unread: usize,
-    line: &mut [u8],
-) {
-    let n = saved::totals_line(answered as u64, unread as u64, line);
-    if !write_line(out, line, n) {
-        complain(
-            err,
-            b"replay_files: writing failed, the last line is not there\n",
-        );
-    }
-}
-
-// 1 or 0.
-fn one_if(so: bool) -> usize
-    ensures { result ≤ 1 }
-{
-    if so { 1 } else { 0 }
-}
-
-// The lines of the arguments from `first` on, and the last line.
-fn answer_all(
-    rt: &(impl Env + Files),
-    out: &impl Print,
-    err: &impl Print,
-    first: usize,
-    count: usize,
-    quiet: bool,
-    name: &mut [u8],
-    line: &mut [u8],
-) {
-    let mut i = first;
-    let mut answered = 0;
-    while i < count {
-        let told = answer_argument(rt, out, i, name, line);
-        if !told.written {
-            complain(
-                err,
-                b"replay_files: writing failed, the lines are not complete\n",
-            );
-            return;
-        }
-        answered += one_if(told.answered);
-        i += 1;
-        progress(err, quiet, i - first, line);
-    }
-    print_totals(out, err, answered, i - first - answered, line);
+fn argument_count(rt: &impl Env) -> usize {
+    (0..usize::MAX)
+        .take_while(|&i| !matches!(rt.arg(i, &mut [0; 1]), Err(FillError::NotPresent)))
+        .count()
 }
 
 // Whether the first argument is -q.
 fn is_quiet(rt: &impl Env) -> bool {
-    let mut two = [0u8; 2];
-    let n = arg(rt, 1, &mut two);
-    (n == 2) & (two[0] == 45) & (two[1] == 113)
+    argument(rt, 1, &mut [0; 2]) == Some(b"-q".as_slice())
 }
 
-// A name has room for every argument that Linux passes, and a line for one and what follows it.
+// The upload in a file, at the start of the buffer. Of one byte more than an upload may have, no more is read.
+// The library's paths are UTF-8 text, so a name that is not cannot be opened.
+fn read_upload<'a>(
+    rt: &impl Files,
+    name: &[u8],
+    buffer: &'a mut [u8; 3329],
+) -> Result<&'a [u8], Unanswered>
+    ensures { IfOk result (λ upload. too_long upload.now ≡ false) }
+{
+    let path = std::str::from_utf8(name).map_err(|_| Unanswered::Unopened)?;
+    let mut file = File::open(rt, path).map_err(|_| Unanswered::Unopened)?;
+    let n = cases::filled(&mut file, buffer).map_err(|_| Unanswered::Unread)?;
+    let upload = &buffer[..n];
+    if saved::too_long(upload) {
+        return Err(Unanswered::TooLong);
+    }
+    Ok(upload)
+}
+
+// Puts the line about a file at the start of the buffer, and answers its length, or 0 where it has no room: a number, as the contracts of `saved` have it.
+fn line_of(name: &[u8], upload: Result<&[u8], Unanswered>, line: &mut [u8]) -> usize
+    ensures answered { IfOk upload.entry (λ bytes. Placed (answer_line name.now bytes.now) line.old line.new result) }
+    ensures unopened { IsErrOf upload.entry Unanswered.Unopened → Placed (unopened_line name.now) line.old line.new result }
+    ensures unread { IsErrOf upload.entry Unanswered.Unread → Placed (unread_line name.now) line.old line.new result }
+    ensures too_long { IsErrOf upload.entry Unanswered.TooLong → Placed (too_long_line name.now) line.old line.new result }
+{
+    match upload {
+        Ok(bytes) => saved::answer_line(name, bytes, line),
+        Err(Unanswered::Unopened) => saved::unopened_line(name, line),
+        Err(Unanswered::Unread) => saved::unread_line(name, line),
+        Err(Unanswered::TooLong) => saved::too_long_line(name, line),
+    }
+}
+
+// Writes the line of n bytes at the buffer's start, and nothing of one that had no room, which has 0.
+fn write_line(to: &impl Print, line: &[u8], n: usize) -> Option<()> {
+    if n == 0 {
+        return None;
+    }
+    to.write_all(line.get(..n)?).ok()
+}
+
+impl Room {
+    // Prints the line of the file that an argument names, and answers whether it holds an upload.
+    // An argument that is missing or has no room is the empty name, which no file has.
+    fn print_line(&mut self, rt: &(impl Env + Files + Print), i: usize) -> Result<bool, Fault> {
+        let name = argument(rt, i, &mut self.name).unwrap_or_default();
+        let upload = read_upload(rt, name, &mut self.upload);
+        let n = line_of(name, upload, &mut self.line);
+        write_line(rt, &self.line, n).ok_or(Fault::Line)?;
+        Ok(upload.is_ok())
+    }
+
+    // Says how many files are done. A write that fails is passed over.
+    fn print_progress(&mut self, err: &impl Print, done: usize) {
+        let n = saved::progress_line(done as u64, &mut self.line);
+        let _ = write_line(err, &self.line, n);
+    }
+
+    // Prints the last line.
+    fn print_totals(
+        &mut self,
+        out: &impl Print,
+        answered: usize,
+        unread: usize,
+    ) -> Result<(), Fault> {
+        let n = saved::totals_line(answered as u64, unread as u64, &mut self.line);
+        write_line(out, &self.line, n).ok_or(Fault::Totals)
+    }
+
+    // Prints a line for each name, and the last line; every 1,000 files, says so on standard error.
+    fn print_all(
+        &mut self,
+        rt: &(impl Env + Files + Print),
+        err: &impl Print,
+    ) -> Result<(), Fault> {
+        let quiet = is_quiet(rt);
+        let first = 1 + usize::from(quiet);
+        let mut answered = 0;
+        let mut unread = 0;
+        for i in first..argument_count(rt) {
+            if self.print_line(rt, i)? {
+                answered += 1;
+            } else {
+                unread += 1;
+            }
+            let done = answered + unread;
+            if !quiet && done % 1000 == 0 {
+                self.print_progress(err, done);
+            }
+        }
+        self.print_totals(rt, answered, unread)
+    }
+}
+
 fn main(rt: HostRuntime) {
-    let mut name = [0u8; 131072];
-    let mut line = [0u8; 131200];
-    let quiet = is_quiet(&rt);
-    let first = 1 + one_if(quiet);
-    answer_all(
-        &rt,
-        &rt.stdout(),
-        &rt.stderr(),
-        first,
-        arg_count(&rt),
-        quiet,
-        &mut name,
-        &mut line,
-    );
+    let mut room = Room {
+        name: [0; 131072],
+        upload: [0; 3329],
+        line: [0; 131200],
+    };
+    if let Err(fault) = room.print_all(&rt, &rt.stderr()) {
+        let _ = eprintln!(rt; "replay_files: {fault}");
+    }
 }
