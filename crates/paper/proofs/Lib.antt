@@ -9,8 +9,5 @@ pub mod Readings
 pub mod Listed
 pub mod Decimal
 pub mod Examples
-<<<<<<< HEAD
 pub mod Unique
-=======
 pub mod Shown
->>>>>>> cb329bf5cc8695c7a89f5d9ddef43dc6729baed9

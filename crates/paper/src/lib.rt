@@ -2,11 +2,9 @@
 
 #![tactic(auto)]
 
-<<<<<<< HEAD
 mod refused;
-=======
+
 use std::fmt;
->>>>>>> cb329bf5cc8695c7a89f5d9ddef43dc6729baed9
 
 // What every call answers: the six numbers of document 01, in its order.
 #[derive(Clone, Copy, Debug, PartialEq, Eq)]

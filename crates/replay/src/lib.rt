@@ -161,7 +161,8 @@ fn tried(view: &View, kind: u8, x: u8, y: u8) -> Result<Step, Refused>
     }
 }
 
-// Takes an action if it can be taken.
+// Takes an action if it can be taken. In line, so that what it answers does not go through memory.
+#[inline(always)]
 fn act(cabling: &Cabling, image: &mut [u8], kind: u8, x: u8, y: u8) -> Result<(), Refused>
     requires { SoundImage (cables cabling.now) image.old }
     ensures { Taken cabling.now.upload.bytes.now image.old kind x y (number_of result) image.new }
