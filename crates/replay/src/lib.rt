@@ -150,7 +150,8 @@ pub fn fresh(upload: &[u8], image: &mut [u8]) -> Answer
     answered(try_fresh(upload, image))
 }
 
-// What an action comes to, by its kind: the step that it names, where that is possible.
+// What an action comes to, by its kind: the step that it names, where that is possible. In line, as `act` is.
+#[inline(always)]
 fn tried(view: &View, kind: u8, x: u8, y: u8) -> Result<Step, Refused>
     ensures { TriedAs (table view.now) (shown view.now) (reading (table view.now) kind x y) result }
 {
