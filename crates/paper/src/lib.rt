@@ -1,4 +1,4 @@
-// Document 01 as definitions, with the published automaton beside it and the replays P1 to P12; and the answer of every call.
+// Document 01 as definitions, with the published automaton beside it and the replays P1 to P12; of code only what every call answers.
 
 #![tactic(auto)]
 
