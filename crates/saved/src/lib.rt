@@ -8,7 +8,6 @@ ghost use Rattle.saved.specs.Saved.{too_long, answer_line, unopened_line, unread
 ghost use Rattle.paper.specs.Lines.{line_of};
 
 use paper::Answer;
-use std::slice;
 
 // Some texts, one behind another, where there is room for all of them: how many bytes they are.
 // Their lengths are taken off the room in turn, and not summed: nothing promises that the sum fits its type.
@@ -67,10 +66,10 @@ pub fn too_long_line(name: &[u8], out: &mut [u8]) -> usize
 }
 
 // An answer's line as that of entry 0, in an array.
-fn entry(answer: &Answer, out: &mut [u8; 64]) -> usize
-    ensures { (take result out.new ≡ line_of 0 answer.now) × (0 < result) × (result ≤ 64) }
+fn entry(answer: Answer, out: &mut [u8; 64]) -> usize
+    ensures { (take result out.new ≡ line_of 0 answer) × (0 < result) × (result ≤ 64) }
 {
-    lines::write(slice::from_ref(answer), out).steps as usize
+    lines::write(&[answer], out).steps as usize
 }
 
 // The line of a file that holds an upload.
@@ -79,7 +78,7 @@ pub fn answer_line(name: &[u8], upload: &[u8], out: &mut [u8]) -> usize
 {
     let answer = replay::replay(upload);
     let mut text = [0; 64];
-    let n = entry(&answer, &mut text);
+    let n = entry(answer, &mut text);
     line(&[name, &text[1..n]], out)
 }
 
