@@ -1,5 +1,5 @@
 -- One link tried for 5, 6 and 7: its refusal in plain terms.
-use Prim.Native.Nat.{ℕ, ◌<◌}
+use Prim.Native.Nat.{ℕ, ◌≤◌, ◌<◌}
 use mathlib.Core.Bool.{Bool, true, false}
 use mathlib.Core.Path.{◌≡◌, refl}
 use mathlib.Core.List.{[], ◌∷◌}
@@ -39,6 +39,14 @@ module _ (t : Table) (i : ℕ) where
         fails (joins_itself t i) (tells_itself t i) s,
         holds (repeats t i) (tells_repeats t i) p,
       )
+
+  -- where both ends are nodes
+  pub names_none : t.end i false < t.nodes → t.end i true < t.nodes → NamesNoNode t i → ⊥
+  names_none p q w = go w.0 w.1
+    where
+      go : (b : Bool) → t.nodes ≤ t.end i b → ⊥
+      go false h = omega arith
+      go true h = omega arith
 
   pub link_passes : LinkPasses t i → (link_refusal t i).number ≡ 0
   link_passes p =

@@ -14,10 +14,10 @@ same c = c.all_same.ensures ∙ labelled_same _ _ c.args.self.now.passes.range.s
 pub join_links-requires : goal.join_links-requires
 join_links-requires c = (c.requires, labelled_none _ _ _ (search rules) c.number_nodes.ensures)
 
-pub returns-then-all_same : goal.returns-then-all_same
-returns-then-all_same c = sym (same (goal.at.returns-then-all_same c).After-all_same) ∙ c.if-all_same.true
+pub returns-then-all_same-clause-passed : goal.returns-then-all_same-clause-passed
+returns-then-all_same-clause-passed c = sym (same (goal.at.returns-then-all_same-clause-passed c).After-all_same) ∙ c.if-all_same.true
 
-pub returns-else-all_same : goal.returns-else-all_same
-returns-else-all_same c =
+pub returns-else-all_same-clause-refused : goal.returns-else-all_same-clause-refused
+returns-else-all_same-clause-refused c =
     let upload = c.args.self.now.upload.bytes.now in
-    sym (header_passed upload c.args.self.now.passes ∙ passed_links upload (λ i p h. link_passes (table_of upload) i (c.requires i (omega arith))) ∙ rw (← same (goal.at.returns-else-all_same c).After-all_same, c.if-all_same.false))
+    sym (header_passed upload c.args.self.now.passes ∙ passed_links upload (λ i p h. link_passes (table_of upload) i (c.requires i (omega arith))) ∙ rw (← same (goal.at.returns-else-all_same-clause-refused c).After-all_same, c.if-all_same.false))
