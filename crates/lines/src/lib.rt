@@ -10,7 +10,8 @@ ghost use Rattle.lines.specs.Output.{no_room, written, Output};
 
 use paper::Answer;
 
-// A text in a lent buffer, and the place where its next byte goes.
+// A text in a lent buffer, and the place where its next byte goes. Small numbers are cast to narrower types: std has no `From` there, and `TryFrom` would add a
+// branch that no input takes.
 #[derive(Drop)]
 struct Text<'a> {
     out: &'a mut [u8],
@@ -67,12 +68,12 @@ impl Text<'_> {
         ensures { Writes self.old (line_of number answer) self.new × (self.new.at ≤ self.old.at + 42) }
     {
         self.decimal(number);
-        self.next(answer.refusal as u16);
+        self.next(u16::from(answer.refusal));
         self.next(answer.place);
         self.next(answer.steps);
-        self.next(answer.outcome as u16);
-        self.next(answer.root as u16);
-        self.next(answer.waiting as u16);
+        self.next(u16::from(answer.outcome));
+        self.next(u16::from(answer.root));
+        self.next(u16::from(answer.waiting));
         self.push(b'\n');
     }
 }
@@ -98,17 +99,17 @@ fn width(k: u16) -> usize
         + usize::from(10000 <= k)
 }
 
-// How long a line is: its seven numbers, six spaces and the newline.
+// How long a line is, by the numbers that `Text::line` writes: its seven numbers, six spaces and the newline.
 fn line_width(number: u16, answer: Answer) -> usize
     ensures { (result ≡ length (line_of number answer)) × (result ≤ 42) }
 {
     7 + width(number)
-        + width(answer.refusal as u16)
+        + width(u16::from(answer.refusal))
         + width(answer.place)
         + width(answer.steps)
-        + width(answer.outcome as u16)
-        + width(answer.root as u16)
-        + width(answer.waiting as u16)
+        + width(u16::from(answer.outcome))
+        + width(u16::from(answer.root))
+        + width(u16::from(answer.waiting))
 }
 
 // How long the lines of some answers are.

@@ -30,6 +30,7 @@ fn answer(input: &mut impl Read, out: &impl Print) -> Result<(), Fault> {
     let n = cases::read_up_to(input, &mut buffer).map_err(|_| Fault::Unread)?;
     let mut text = [0u8; 1600];
     let answer = batch::lines(&buffer[..n], &mut text);
+    // `batch::lines` answers the six numbers of document 01.
     if answer.refusal != 0 {
         return Err(Fault::NoRoom);
     }

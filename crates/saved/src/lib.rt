@@ -30,7 +30,7 @@ fn joined(texts: &[&[u8]], out: &mut [u8]) -> Option<usize>
     Some(at)
 }
 
-// Some texts, one behind another.
+// Some texts, one behind another; 0 where there is no room, which `Placed` says and the public functions answer.
 fn line(texts: &[&[u8]], out: &mut [u8]) -> usize
     ensures { Placed (text_of texts.now) out.old out.new result }
 {
@@ -69,7 +69,7 @@ pub fn too_long_line(name: &[u8], out: &mut [u8]) -> usize
 fn entry(answer: Answer, out: &mut [u8; 64]) -> usize
     ensures { (take result out.new ≡ line_of 0 answer) × (0 < result) × (result ≤ 64) }
 {
-    lines::write(&[answer], out).steps as usize
+    usize::from(lines::write(&[answer], out).steps)
 }
 
 // The line of a file that holds an upload.

@@ -18,14 +18,14 @@ mod refusal;
 
 pub use refusal::Refusal;
 
-// n, m and a are in range.
+// n, m and a are in range: the bounds stand as document 01 has them, one beside another.
 fn in_range(n: usize, m: usize, a: usize) -> bool
     ensures { result ≡ in_range n m a }
 {
     ((1 <= n) & (n <= 63)) & ((m <= 126) & (a <= 1024))
 }
 
-// Every node has its own number as label.
+// Every node has its own number as label. Numbers below 64 or 127 are cast to bytes here and below: std has no `From` to a narrower type.
 fn number_nodes(labels: &mut [u8])
     requires { length labels.old ≤ 63 }
     ensures { Rewritten own_number labels.old labels.new }
