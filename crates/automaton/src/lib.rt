@@ -234,6 +234,7 @@ fn is_moving(view: &View) -> bool
     some_node_moves(view) || some_link_moves(view)
 }
 
+// Two counts and no common one: their clauses name two fields of the state.
 // How many nodes are root.
 fn root_count(view: &View) -> u8
     ensures { result ≡ roots (table view.now) (shown view.now) }

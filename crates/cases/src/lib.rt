@@ -43,7 +43,7 @@ pub fn two<R: Read>(input: &mut R) -> Option<usize>
     Some(usize::from(u16::from_be_bytes(next(input)?)))
 }
 
-// A length of four bytes, high byte first.
+// A length of four bytes, high byte first. By `as`: std has no `From` of u32 for usize.
 pub fn four<R: Read>(input: &mut R) -> Option<usize>
     ensures bound { IfSome result (λ n. n < 2 ^ 32) }
     ensures bytes { IfSome result (λ n. Consumes (R.remaining input.old) (R.remaining input.new) (to_be_bytes w32 n)) }

@@ -117,7 +117,7 @@ impl Room {
         Ok(upload.is_ok())
     }
 
-    // Says how many files are done. A write that fails is passed over.
+    // Says how many files are done. A write that fails is passed over. By `as`, here and below: std has no `From` of usize for u64.
     fn print_progress(&mut self, err: &impl Print, done: usize) {
         let n = saved::progress_line(done as u64, &mut self.line);
         let _ = write_line(err, &self.line, n);

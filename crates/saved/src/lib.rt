@@ -4,8 +4,7 @@
 
 ghost use Rattle.std.specs.Prelude.{◌≡◌, length, take, ◌<◌, ◌≤◌};
 ghost use Rattle.saved.specs.Placed.{Placed, Joins, text_of};
-ghost use Rattle.saved.specs.Saved.{too_long, answer_line, unopened_line, unread_line, too_long_line, progress_line, totals_line};
-ghost use Rattle.paper.specs.Lines.{line_of};
+ghost use Rattle.saved.specs.Saved.{numbers, too_long, answer_line, unopened_line, unread_line, too_long_line, progress_line, totals_line};
 
 use paper::Answer;
 
@@ -30,7 +29,7 @@ fn joined(texts: &[&[u8]], out: &mut [u8]) -> Option<usize>
     Some(at)
 }
 
-// Some texts, one behind another; 0 where there is no room, which `Placed` says and the public functions answer.
+// Some texts, one behind another: 0 where there is no room, as `Placed` says of every line.
 fn line(texts: &[&[u8]], out: &mut [u8]) -> usize
     ensures { Placed (text_of texts.now) out.old out.new result }
 {
@@ -44,7 +43,7 @@ pub fn too_long(bytes: &[u8]) -> bool
     3328 < bytes.len()
 }
 
-// The line of a file that cannot be opened.
+// The line of a file that cannot be opened. This one and the next two differ only in their text, and each is a call of its own for the program.
 pub fn unopened_line(name: &[u8], out: &mut [u8]) -> usize
     ensures { Placed (unopened_line name.now) out.old out.new result }
 {
@@ -65,11 +64,12 @@ pub fn too_long_line(name: &[u8], out: &mut [u8]) -> usize
     line(&[name, b": longer than any upload\n"], out)
 }
 
-// An answer's line as that of entry 0, in an array.
-fn entry(answer: Answer, out: &mut [u8; 64]) -> usize
-    ensures { (take result out.new ≡ line_of 0 answer) × (0 < result) × (result ≤ 64) }
+// The six numbers of an answer, a space before each and a newline behind: its line as that of entry 0, but for the first byte.
+fn six_numbers(answer: Answer, buffer: &mut [u8; 64]) -> &[u8]
+    ensures { result.now ≡ numbers answer }
 {
-    usize::from(lines::write(&[answer], out).steps)
+    let n = usize::from(lines::write(&[answer], buffer).steps);
+    &buffer[1..n]
 }
 
 // The line of a file that holds an upload.
@@ -77,9 +77,7 @@ pub fn answer_line(name: &[u8], upload: &[u8], out: &mut [u8]) -> usize
     ensures { Placed (answer_line name.now upload.now) out.old out.new result }
 {
     let answer = replay::replay(upload);
-    let mut text = [0; 64];
-    let n = entry(answer, &mut text);
-    line(&[name, &text[1..n]], out)
+    line(&[name, six_numbers(answer, &mut [0; 64])], out)
 }
 
 // How far it has come: a number of files.
