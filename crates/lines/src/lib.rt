@@ -10,8 +10,8 @@ ghost use Rattle.lines.specs.Output.{no_room, written, Output};
 
 use paper::Answer;
 
-// A text in a lent buffer, and the place where its next byte goes. Small numbers are cast to narrower types: std has no `From` there, and `TryFrom` would add a
-// branch that no input takes.
+// A text in a lent buffer, and the place where its next byte goes; each method asks for its own bound on the place. Numbers below 10 or 65,536 are cast: std has no
+// `From` to a narrower type, and `TryFrom` would add a branch that no input takes.
 #[derive(Drop)]
 struct Text<'a> {
     out: &'a mut [u8],

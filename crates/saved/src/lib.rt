@@ -68,7 +68,8 @@ pub fn too_long_line(name: &[u8], out: &mut [u8]) -> usize
 fn six_numbers(answer: Answer, buffer: &mut [u8; 64]) -> &[u8]
     ensures { result.now ≡ numbers answer }
 {
-    let n = usize::from(lines::write(&[answer], buffer).steps);
+    // By `as`: with `from` the place would have a second name in each proof.
+    let n = lines::write(&[answer], buffer).steps as usize;
     &buffer[1..n]
 }
 

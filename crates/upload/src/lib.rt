@@ -45,6 +45,7 @@ pub struct Upload<'a> {
 }
 
 impl Upload<'_> {
+    // n, m and a stand in the header with a name each, and have an accessor each.
     // n, the number of nodes.
     pub fn nodes(&self) -> usize
         ensures { (result ≡ nodes_of self.now.bytes.now) × (result < 256) }
