@@ -1,6 +1,6 @@
 -- What a computed test says of its parts.
 use Prim.Native.Nat.{ℕ}
-use mathlib.Core.Bool.{Bool, true, false, ◌&&◌, true≢false, false≢true}
+use mathlib.Core.Bool.{Bool, true, false, ◌&&◌, beq, true≢false, false≢true}
 use mathlib.Core.Path.{◌≡◌, refl, sym, ◌∙◌}
 use lib.Dec.{eqb}
 use borrow.Author.Tests.{eq-eqb}
@@ -18,3 +18,7 @@ and_right false b e = absurd (false≢true e)
 
 pub eqb_same : (a : ℕ) → eqb a a ≡ true
 eqb_same a = eq-eqb a a refl
+
+pub beq_same : (b : Bool) → beq b b ≡ true
+beq_same true = refl
+beq_same false = refl
