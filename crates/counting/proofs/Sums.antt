@@ -11,6 +11,10 @@ use borrow.Author.Tests.{eq-eqb, ne_eqb}
 use Rattle.counting.specs.Count.{sum, count, bit}
 use Rattle.counting.proofs.Bits.{bit_true, bit_false, bit_zero, bit_most, bit_not, bit_mono}
 
+pub sum_empty : (f : ℕ → ℕ) → sum 0 f ≡ 0
+unfolding sum
+sum_empty f = refl
+
 pub sum_more : (n : ℕ) (f : ℕ → ℕ) → sum (n + 1) f ≡ sum n f + f n
 unfolding sum
 sum_more n f = rw add-one
