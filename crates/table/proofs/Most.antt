@@ -10,7 +10,7 @@ use Rattle.paper.specs.Table.{Table, table_of, one_piece}
 use Rattle.paper.specs.Refusals.{Refusal, accepted, given, first, in_range, names_no_node, joins_itself, repeats, link_refusal, links_refusal, refusal, table_refusal}
 
 -- the five checks of a table
-pub table_checks : List ℕ → List Refusal
+unfoldable pub table_checks : List ℕ → List Refusal
 table_checks upload =
     given (ltb (length upload) 4) 3 0
     ∷ given (not (in_range (nodes_of upload) (links_of upload) (actions_of upload))) 4 0
