@@ -1,14 +1,11 @@
 -- The order of refusals: the first of a list, and the checks of the table as one.
 use Prim.Native.Nat.{ℕ}
-use mathlib.Core.Bool.{Bool, true, false, not, cond}
+use mathlib.Core.Bool.{Bool, true, false, cond}
 use mathlib.Core.Path.{◌≡◌, refl, sym, ap, ◌∙◌}
 use mathlib.Core.List.{List, [], ◌∷◌, ◌++◌}
-use lib.ListN.{length}
-use lib.Dec.{ltb, eqb}
+use lib.Dec.{eqb}
 use native.Mathlib.Decide.{ℕ_discrete}
-use Rattle.paper.specs.Upload.{nodes_of, links_of, actions_of, exact_length}
-use Rattle.paper.specs.Table.{table_of, one_piece}
-use Rattle.paper.specs.Refusals.{Refusal, accepted, given, first, in_range, links_refusal, Tried, refusal, table_refusal}
+use Rattle.paper.specs.Refusals.{Refusal, accepted, given, first, Tried, refusal, table_refusal}
 use Rattle.table.proofs.Order.{first_skip, first_stop}
 use Rattle.table.proofs.Most.{table_checks}
 
