@@ -178,13 +178,7 @@ fn act(cabling: &Cabling, image: &mut [u8], kind: u8, x: u8, y: u8) -> Result<()
     Ok(())
 }
 
-fn try_step(
-    upload: &[u8],
-    image: &mut [u8],
-    kind: u8,
-    x: u8,
-    y: u8,
-) -> Result<Answer, Refusal>
+fn try_step(upload: &[u8], image: &mut [u8], kind: u8, x: u8, y: u8) -> Result<Answer, Refusal>
     ensures value { answer_of result ≡ step_answer upload.now image.old kind x y }
     ensures image_after { image.new ≡ step_image upload.now image.old kind x y }
 {
@@ -256,7 +250,12 @@ fn replay_on(cabling: &Cabling, image: &mut [u8]) -> Answer
     };
     match replayed {
         Ok(steps) => reporting(&view, 0, 0, steps),
-        Err(stopped) => reporting(&view, u8::from(stopped.refused), stopped.place, stopped.place),
+        Err(stopped) => reporting(
+            &view,
+            u8::from(stopped.refused),
+            stopped.place,
+            stopped.place,
+        ),
     }
 }
 
