@@ -23,6 +23,7 @@ impl Room {
     }
 }
 
+// The loop stands in each of the four programs: a function for it would read and write, and have no theorem.
 fn main(rt: HostRuntime) {
     let mut room = Room {
         batch: [0; 131072],

@@ -11,6 +11,7 @@ fn answer_one(input: &mut impl Read, out: &impl Print, batch: &mut [u8]) -> Opti
     Some(())
 }
 
+// The loop stands in each of the four programs: a function for it would read and write, and have no theorem.
 fn main(rt: HostRuntime) {
     let mut batch = [0u8; 131072];
     for _ in 0..u64::MAX {

@@ -142,10 +142,7 @@ fn direction_from(cabling: &Cabling, x: usize, y: usize) -> Result<Direction, Re
         return Err(Refused::Unread);
     }
     let link = link_between(cabling, x, y).ok_or(Refused::NoLink)?;
-    Ok(Direction {
-        link,
-        back: cabling.upload.end(link, false) != x,
-    })
+    Ok(cabling.direction_from(link, x))
 }
 
 // What an action comes to whose kind is that of a step on a direction.
@@ -214,6 +211,7 @@ fn link_moves(view: &View, i: usize) -> bool
     direction_moves(view, forth) | direction_moves(view, forth.reverse())
 }
 
+// One chain over the nodes and one over the links: a common function would take the number and the test, and be `any` again.
 // Some step at a node is possible.
 fn some_node_moves(view: &View) -> bool
     ensures { result ≡ some (table view.now).nodes (moves_at (table view.now) (shown view.now)) }
@@ -236,6 +234,7 @@ fn is_moving(view: &View) -> bool
     some_node_moves(view) || some_link_moves(view)
 }
 
+// Two counts and no common one: their clauses name two fields of the state.
 // How many nodes are root.
 fn root_count(view: &View) -> u8
     ensures { result ≡ roots (table view.now) (shown view.now) }
@@ -259,6 +258,7 @@ fn lowest_root(view: &View) -> Option<u8>
     ensures { Told (table view.now).nodes 255 (root_of (table view.now) (shown view.now)) result }
 {
     let x = (0..view.cabling.nodes()).find(|&x| view.root(x))?;
+    // Below 64: std has no `From` to a narrower type.
     Some(x as u8)
 }
 

@@ -19,7 +19,7 @@ enum Refusal {
     Span = 2,
 }
 
-// Four bytes as a number, high byte first.
+// Four bytes as a number, high byte first. By `as`: std has no `From` of u32 for usize.
 fn four(batch: &[u8], at: usize) -> usize
     requires { at + 4 ≤ length batch.now }
     ensures { (result ≡ four_at batch.now at) × (result < 2 ^ 32) }

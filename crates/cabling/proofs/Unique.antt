@@ -7,6 +7,7 @@ use Rattle.cabling.proofs.Cabling.links
 use Rattle.cabling.proofs.Cabling.source
 use Rattle.cabling.proofs.Cabling.target
 use Rattle.cabling.proofs.Cabling.image_length
+use Rattle.cabling.proofs.Cabling.direction_from
 
 pub nodes_determined : Determined nodes.Kinds.ps nodes.Kinds.r nodes.Reads.Pre nodes.Reads.Learnt
 nodes_determined κs a pre z z' w w' p q = (same p.0 q.0, refl)
@@ -22,3 +23,6 @@ target_determined κs a pre z z' w w' p q = (same p.0 q.0, refl)
 
 pub image_length_determined : Determined image_length.Kinds.ps image_length.Kinds.r image_length.Reads.Pre image_length.Reads.Learnt
 image_length_determined κs a pre z z' w w' p q = (same p.0 q.0, refl)
+
+pub direction_from_determined : Determined direction_from.Kinds.ps direction_from.Kinds.r direction_from.Reads.Pre direction_from.Reads.Learnt
+direction_from_determined κs a pre z z' w w' p q = (same p q, refl)

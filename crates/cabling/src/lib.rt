@@ -4,6 +4,7 @@
 
 ghost use Rattle.std.specs.Prelude.{◌≡◌, ◌<◌, ◌≤◌, length};
 ghost use Rattle.paper.specs.Table.{source, target};
+ghost use Rattle.paper.specs.Actions.{direction_from};
 ghost use Rattle.paper.specs.Image.{image_length};
 ghost use Rattle.cabling.specs.Accepted.{Passes};
 
@@ -47,6 +48,17 @@ impl Cabling<'_> {
         ensures { (result ≡ target (cables self.now) d.link d.back) × (result < (cables self.now).nodes) }
     {
         self.upload.end(d.link, !d.back)
+    }
+
+    // The direction of link i that comes from x.
+    pub fn direction_from(&self, i: usize, x: usize) -> Direction
+        requires { i < (cables self.now).links }
+        ensures { result ≡ record { link = i; back = direction_from (cables self.now) i x } }
+    {
+        Direction {
+            link: i,
+            back: self.upload.end(i, false) != x,
+        }
     }
 
     // n + 2m.

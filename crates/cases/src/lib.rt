@@ -10,7 +10,7 @@ use std::io::Read;
 use std::{fmt, io};
 
 // Reads until the input ends or the buffer is full, and answers how many bytes came to the buffer's start. Where a read fails, so does this.
-pub fn filled<R: Read>(input: &mut R, buffer: &mut [u8]) -> io::Result<usize>
+pub fn read_up_to<R: Read>(input: &mut R, buffer: &mut [u8]) -> io::Result<usize>
     ensures bound { IfOk result (λ n. n ≤ length buffer.new) }
     ensures bytes { IfOk result (λ n. Consumes (R.remaining input.old) (R.remaining input.new) (take n buffer.new)) }
     ensures end { IfOk result (λ n. n < length buffer.new → IsAtEnd (R.remaining input.new)) }
@@ -43,7 +43,7 @@ pub fn two<R: Read>(input: &mut R) -> Option<usize>
     Some(usize::from(u16::from_be_bytes(next(input)?)))
 }
 
-// A length of four bytes, high byte first.
+// A length of four bytes, high byte first. By `as`: std has no `From` of u32 for usize.
 pub fn four<R: Read>(input: &mut R) -> Option<usize>
     ensures bound { IfSome result (λ n. n < 2 ^ 32) }
     ensures bytes { IfSome result (λ n. Consumes (R.remaining input.old) (R.remaining input.new) (to_be_bytes w32 n)) }

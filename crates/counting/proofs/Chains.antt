@@ -1,19 +1,16 @@
--- What the calls that run a chain over 0..n give: any, all, find, filter and count.
-use Rattle.std.proofs.Common.{ℕ, Bool, true, false, List, length, Option, None, Some, MatchOption, unwrap_or, option_map, ◌≡◌, refl, sym, ap, subst, ◌∙◌, arith, Bor}
+-- What the calls that run a chain over 0..n give: any, all and find.
+use Rattle.std.proofs.Common.{ℕ, Bool, true, false, List, Option, None, Some, MatchOption, option_map, ◌≡◌, refl, sym, subst, ◌∙◌, arith, Bor}
 use denote.Param.Members.{Mut}
-use Rattle.std.specs.declared.iter.Filter.{Filter}
 use Rattle.std.specs.declared.ops.Range.{Range}
 use Rattle.std.specs.Bool.{⊤}
 use Rattle.std.specs.Fn.{Called, CalledAt}
-use Rattle.std.specs.Iterator.{YieldsThen, Drains}
-use Rattle.std.specs.Iterator.Adapters.{filter_steps, filter_source, filter_callee}
+use Rattle.std.specs.Iterator.{YieldsThen}
 use Rattle.std.specs.List.{FoldsTo}
 use Rattle.std.proofs.iter.Yields.{nat_range_steps}
 use Rattle.std.proofs.lemmas.Iterator.{YieldsList-from_range}
-use Rattle.std.proofs.lemmas.Iterator.Consumers.{count_from_yields_List, YieldsList-from_filter}
 use Rattle.std.proofs.lemmas.Iterator.Search.{any_from_yields_List, all_from_yields_List, find_from_yields_List}
-use Rattle.counting.specs.Count.{all, some, least, count}
-use Rattle.counting.proofs.Ranges.{any_is_some, all_is_all, filter_is_count, find_is_least, find_is_first, FirstBelow}
+use Rattle.counting.specs.Count.{all, some}
+use Rattle.counting.proofs.Ranges.{any_is_some, all_is_all, find_is_first, FirstBelow}
 
 -- the range 0..n
 abbrev pub below : ℕ → Range ℕ
@@ -38,13 +35,3 @@ module _ {F : Type 0} {g : Mut F (Bor ℕ × Unit {0}) Bool} {f : F} (p : ℕ �
         → s ≡ below n → ((x : ℕ) (b : Bool) (q : F) → CalledAt g f x b q → (q ≡ f) × (b ≡ p x)) → FirstBelow p n r
     first_below ran e k =
         subst (FirstBelow p n) (sym (same_option r ∙ find_from_yields_List p u f r ran (YieldsList-from_range 0 n n e (omega arith)) k)) (find_is_first p n)
-
-    pub least_below : (d : ℕ) → (xs : List ℕ) × (j : F) × YieldsThen nat_range_steps s xs r u × FoldsTo (λ h x q. CalledAt g h x false q) f xs j × MatchOption r ⊤ (λ x. (h : F) × CalledAt g j x true h)
-        → s ≡ below n → ((x : ℕ) (b : Bool) (q : F) → CalledAt g f x b q → (q ≡ f) × (b ≡ p x)) → unwrap_or r d ≡ least n p d
-    least_below d ran e k =
-        ap (λ o. unwrap_or o d) (same_option r ∙ find_from_yields_List p u f r ran (YieldsList-from_range 0 n n e (omega arith)) k) ∙ find_is_least p n d
-
-  pub count_below : {s : Filter (Range ℕ) F} {r : ℕ} → (xs : List ℕ) × Drains (filter_steps nat_range_steps g) s xs × (r ≡ length xs)
-      → filter_source s ≡ below n → filter_callee s ≡ f → ((x : ℕ) (b : Bool) (q : F) → CalledAt g f x b q → (q ≡ f) × (b ≡ p x)) → r ≡ count n p
-  count_below {s} {r} ran e c k =
-      count_from_yields_List s r ran (YieldsList-from_filter g p (YieldsList-from_range 0 n n e (omega arith)) c k) ∙ filter_is_count p n

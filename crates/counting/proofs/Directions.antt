@@ -7,7 +7,7 @@ use native.Mathlib.Omega.{arith}
 use native.Mathlib.Decide.{ℕ_discrete}
 use lib.Dec.{eqb}
 use Rattle.counting.specs.Count.{sum, bit}
-use Rattle.counting.proofs.Booleans.{or_cases, or_neither}
+use Rattle.std.proofs.lemmas.Bool.{or_cases, or_parts}
 use Rattle.counting.proofs.Bits.{bit_true, bit_false, bit_zero}
 use Rattle.counting.proofs.Sums.{sum_add, sum_eq, sum_none, sum_swap, sum_term, sum_pair, sum_change, sum_pick, Found, find}
 
@@ -28,7 +28,7 @@ both_none m f h =
     sum_none m (λ i. f i false + f i true) (λ i l. let p = h i false l in let q = h i true l in omega arith)
 
 -- no direction is its own reverse
-not_same : (b : Bool) → not b ≡ b → ⊥
+pub not_same : (b : Bool) → not b ≡ b → ⊥
 not_same true e = let q = ap bit e in omega arith
 not_same false e = let q = ap bit e in omega arith
 
@@ -118,7 +118,7 @@ both_unique m p one = go (find m (λ i. p i false || p i true))
     go : Found m (λ i. p i false || p i true) → count_both m p ≤ 1
     go (inl (k, l, e)) = ⊎_elim (alone k false l) (alone k true l) (or_cases (p k false) (p k true) e)
     go (inr none) =
-        let z = sum_none m (λ i. bit (p i false) + bit (p i true)) (λ i l. let n = or_neither (p i false) (p i true) (none i l) in let u = bit_false n.0 in let v = bit_false n.1 in omega arith) in omega arith
+        let z = sum_none m (λ i. bit (p i false) + bit (p i true)) (λ i l. let n = or_parts (p i false) (p i true) (none i l) in let u = bit_false n.0 in let v = bit_false n.1 in omega arith) in omega arith
 
 -- The handshake: to sum over the directions is to sum, for every node below n, over the directions into it.
 pub handshake : (n m : ℕ) (into : ℕ → Bool → ℕ) (f : ℕ → ℕ → Bool → ℕ) → ((i : ℕ) (b : Bool) → i < m → into i b < n) → sum_both m (λ i b. f (into i b) i b) ≡ sum n (λ x. sum_both m (λ i b. cond (eqb (into i b) x) (f x i b) 0))

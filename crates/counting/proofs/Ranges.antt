@@ -1,14 +1,12 @@
 -- What a chain over 0, 1, .., n - 1 gives, by the words of this crate.
-use Rattle.std.proofs.Common.{ℕ, zero, suc, ◌+◌, ◌<◌, Bool, true, false, cond, ◌&&◌, ◌||◌, List, [], ◌∷◌, ◌++◌, length, length-append, get_or, map, flat_map, filter, find, sum_by, Option, None, Some, MatchOption, unwrap_or, ◌≡◌, refl, sym, ap, ◌∙◌, subst, append-nil, arith}
+use Rattle.std.proofs.Common.{ℕ, zero, suc, ◌+◌, ◌<◌, Bool, true, false, cond, ◌&&◌, ◌||◌, List, [], ◌∷◌, ◌++◌, length, length-append, get_or, map, filter, find, sum_by, Option, None, Some, MatchOption, unwrap_or, ◌≡◌, refl, sym, ap, ◌∙◌, subst, arith}
 use Rattle.std.specs.List.{list_any, list_all, range_with_len}
 use Rattle.std.specs.Option.{option_or}
-use Rattle.std.proofs.lemmas.List.{map-append}
 use Rattle.std.proofs.lemmas.List.Folds.{list_any-append, list_all-append, list_all-map, find-append}
 use Rattle.std.proofs.lemmas.List.Elements.{filter-append}
 use Rattle.std.proofs.lemmas.List.FromFn.{fill_by_all}
 use Rattle.std.proofs.lemmas.List.Sums.{sum_by_push}
-use Rattle.std.proofs.lemmas.Grind.{flat_map-append}
-use Rattle.counting.specs.Count.{all, some, least, sum, count, bit, list_of, joined}
+use Rattle.counting.specs.Count.{all, some, least, sum, count, bit}
 
 -- one number more, behind
 range_more : (n a : ℕ) → range_with_len a (suc n) ≡ range_with_len a n ++ (a + n) ∷ []
@@ -104,24 +102,6 @@ module _ (f : ℕ → ℕ) where
   sum_is_sum zero = refl
   sum_is_sum (suc n) =
       ap (sum_by f) (range_suc n) ∙ sum_by_push f (range_with_len 0 n) n ∙ ap (λ k. k + f n) (sum_is_sum n)
-
-module _ {A : Type 0} where
-  pub map_is_list_of : (n : ℕ) (f : ℕ → A) → map f (range_with_len 0 n) ≡ list_of n f
-  unfolding list_of
-  map_is_list_of zero f = refl
-  map_is_list_of (suc n) f =
-      ap (map f) (range_suc n)
-      ∙ map-append f (range_with_len 0 n) (n ∷ [])
-      ∙ ap (λ l. l ++ f n ∷ []) (map_is_list_of n f)
-
-  pub flat_map_is_joined : (n : ℕ) (f : ℕ → List A) → flat_map f (range_with_len 0 n) ≡ joined n f
-  unfolding joined
-  flat_map_is_joined zero f = refl
-  flat_map_is_joined (suc n) f =
-      ap (flat_map f) (range_suc n)
-      ∙ flat_map-append f (range_with_len 0 n) (n ∷ [])
-      ∙ ap (λ l. flat_map f (range_with_len 0 n) ++ l) (append-nil (f n))
-      ∙ ap (λ l. l ++ f n) (flat_map_is_joined n f)
 
 -- a list's elements in turn
 module _ {A : Type 0} (d : A) (xs : List A) where

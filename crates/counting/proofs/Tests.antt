@@ -1,21 +1,14 @@
 -- Laws of the tests over 0, 1, .., n - 1: all pass, some passes, the least that passes.
 use Prim.Native.Nat.{ℕ, zero, suc, ◌+◌, ◌<◌}
-use mathlib.Core.Bool.{Bool, true, false, cond, ◌&&◌, ◌||◌, false≢true}
+use mathlib.Core.Bool.{Bool, true, false, cond, ◌||◌, false≢true}
 use mathlib.Core.Path.{◌≡◌, refl, sym, ap, ◌∙◌}
 use mathlib.Core.Logic.{◌⊎◌, inl, inr, ⊎_elim}
 use native.Mathlib.Numerals.{add-one}
 use native.Mathlib.Omega.{arith}
 use native.Mathlib.Decide.{ℕ_discrete}
 use Rattle.counting.specs.Count.{all, some, least}
-use Rattle.counting.proofs.Booleans.{either, and_left, and_right, and_both, or_left, or_right, or_cases, or_neither}
-
-pub all_empty : (p : ℕ → Bool) → all 0 p ≡ true
-unfolding all
-all_empty p = refl
-
-pub all_more : (n : ℕ) (p : ℕ → Bool) → all (n + 1) p ≡ all n p && p n
-unfolding all
-all_more n p = rw add-one
+use Rattle.std.proofs.lemmas.Bool.{cases_Bool, and_from, or_left, or_right, or_cases, or_parts}
+use Rattle.counting.proofs.Booleans.{and_left, and_right}
 
 pub all_true : (n : ℕ) (p : ℕ → Bool) → all n p ≡ true → (i : ℕ) → i < n → p i ≡ true
 unfolding all
@@ -29,7 +22,7 @@ all_true (suc n) p e i h = go (ℕ_discrete i n) (all_true n p (and_left (all n 
 pub all_holds : (n : ℕ) (p : ℕ → Bool) → ((i : ℕ) → i < n → p i ≡ true) → all n p ≡ true
 unfolding all
 all_holds zero p f = refl
-all_holds (suc n) p f = and_both (all_holds n p (λ i h. f i (omega arith))) (f n (omega arith))
+all_holds (suc n) p f = and_from _ _ (all_holds n p (λ i h. f i (omega arith))) (f n (omega arith))
 
 pub all_alike : (n : ℕ) (p q : ℕ → Bool) → ((i : ℕ) → i < n → p i ≡ q i) → all n p ≡ all n q
 unfolding all
@@ -59,8 +52,8 @@ some_holds zero p i h e = absurd (omega arith)
 some_holds (suc n) p i h e = go (ℕ_discrete i n) (some_holds n p i)
   where
     go : Dec (i ≡ n) → (i < n → p i ≡ true → some n p ≡ true) → some n p || p n ≡ true
-    go (yes q) below = or_right (some n p) (ap p (sym q) ∙ e)
-    go (no q) below = or_left _ (below (omega arith) e)
+    go (yes q) below = or_right (some n p) _ (ap p (sym q) ∙ e)
+    go (no q) below = or_left _ _ (below (omega arith) e)
 
 pub some_none : (n : ℕ) (p : ℕ → Bool) → ((i : ℕ) → i < n → p i ≡ false) → some n p ≡ false
 unfolding some
@@ -72,7 +65,7 @@ pub least_none : (n : ℕ) (p : ℕ → Bool) (d : ℕ) → some n p ≡ false �
 unfolding some least
 least_none zero p d h = refl
 least_none (suc n) p d h =
-    let none = or_neither (some n p) (p n) h in
+    let none = or_parts (some n p) (p n) h in
     rw none.1 (least_none n p d none.0)
 
 -- a number below n that passes, and none before it does
@@ -88,7 +81,7 @@ least_found (suc n) p d i h g e = go (ℕ_discrete i n) (λ below. least_found n
 -- where one number below n alone passes the test, it is the least one
 pub least_only : (n : ℕ) (p : ℕ → Bool) (d i : ℕ) → i < n → p i ≡ true → ((j : ℕ) → j < n → p j ≡ true → j ≡ i) → least n p d ≡ i
 least_only n p d i h e only =
-    least_found n p d i h (some_none i p (λ j g. ⊎_elim (λ f. let same = only j (omega arith) f in absurd (omega arith)) (λ f. f) (either (p j)))) e
+    least_found n p d i h (some_none i p (λ j g. ⊎_elim (λ f. let same = only j (omega arith) f in absurd (omega arith)) (λ f. f) (cases_Bool (p j)))) e
 
 -- the least number passes the test, or is the given
 pub least_passes : (n : ℕ) (p : ℕ → Bool) (d : ℕ) → (p (least n p d) ≡ true) ⊎ (least n p d ≡ d)

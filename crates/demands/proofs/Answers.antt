@@ -21,7 +21,8 @@ use Rattle.paper.specs.Refusals.{Refusal, accepted, Tried, refusal}
 use Rattle.paper.specs.Calls.{refused_with, reported, has_state, answered, Replayed, replayed, replay_behind, fresh_answer, run_answer, report_answer, list_answer, list_of_image, step_refusal, step_answer, replay_answer}
 use Rattle.paper.specs.Batch.{part_of, entry_answer}
 use Rattle.paper.specs.Lines.{text_of, lines_answer}
-use Rattle.counting.proofs.Booleans.{or_cases, or_right, and_left, and_right, and_both, clash}
+use Rattle.std.proofs.lemmas.Bool.{or_cases, or_right, and_from}
+use Rattle.counting.proofs.Booleans.{and_left, and_right, clash}
 use Rattle.cabling.specs.Accepted.{Accepted}
 use Rattle.batch.proofs.Independent.{independent}
 use Rattle.demands.specs.ExactlyWhen
@@ -252,7 +253,7 @@ call_judged (lines_call batch buffer) = lines_judged batch buffer
 answered_action : (number place steps : ℕ) (t : Table) (s : State) → (9 ≤ number) × (number ≤ 11) → answered (record { number = number; place = place }) steps t s ≡ reported (record { number = number; place = place }) steps t s
 answered_action number place steps t s w =
     ap (λ b. cond b (reported (record { number = number; place = place }) steps t s) (refused_with (record { number = number; place = place })))
-    (or_right (eqb number 0) (and_both (le-leb 9 number w.0) (le-leb number 11 w.1)))
+    (or_right (eqb number 0) _ (and_from _ _ (le-leb 9 number w.0) (le-leb number 11 w.1)))
 
 -- a replay is ready where its table passes
 replay_ready : (upload : List ℕ) → TablePasses upload → Ready (replay_tries upload)

@@ -12,7 +12,8 @@ use Rattle.paper.specs.State.{State}
 use Rattle.paper.specs.Steps.{Step, children_known, add_child, acknowledge, resolve, become_root, possible}
 use Rattle.paper.specs.Actions.{Reading, names, unread, joins, link_between, direction_from, node_step, link_step, read_node, read_link, of_node, of_link, reading, refused_by, state_after}
 use Rattle.paper.specs.Meanings.{NoRepeat, SoundMarks}
-use Rattle.counting.proofs.Booleans.{and_both, and_left, and_right, or_cases, or_left, or_right, either, clash}
+use Rattle.std.proofs.lemmas.Bool.{and_from, or_cases, or_left, or_right, cases_Bool}
+use Rattle.counting.proofs.Booleans.{and_left, and_right, clash}
 use Rattle.counting.proofs.Tests.{some_none, least_none}
 use Rattle.paper.proofs.Changes
 use Rattle.paper.proofs.Readings.{Read, at_node, for_link, not_read, read, read_once, read_step}
@@ -37,8 +38,8 @@ cause_node t kind x y node = go (ltb x t.nodes) refl (eqb y 255) refl
 
 -- a link that joins x and y, in plain terms
 joins_from : (t : Table) (x y i : ℕ) (b : Bool) → source t i b ≡ x → target t i b ≡ y → joins t x y i ≡ true
-joins_from t x y i false e f = or_left _ (and_both (eq-eqb _ _ e) (eq-eqb _ _ f))
-joins_from t x y i true e f = or_right (eqb (t.end i false) x && eqb (t.end i true) y) (and_both (eq-eqb _ _ f) (eq-eqb _ _ e))
+joins_from t x y i false e f = or_left _ _ (and_from _ _ (eq-eqb _ _ e) (eq-eqb _ _ f))
+joins_from t x y i true e f = or_right (eqb (t.end i false) x && eqb (t.end i true) y) _ (and_from _ _ (eq-eqb _ _ f) (eq-eqb _ _ e))
 
 joins_either : (t : Table) (x y i : ℕ) → joins t x y i ≡ true → (b : Bool) × (source t i b ≡ x) × (target t i b ≡ y)
 joins_either t x y i h = ⊎_elim one other (or_cases (eqb (t.end i false) x && eqb (t.end i true) y) _ h)
@@ -71,9 +72,9 @@ no_kind t kind x y e f = go (dec_lt kind 1) (dec_lt 5 kind) (ℕ_discrete kind 1
     go : Dec (kind < 1) → Dec (5 < kind) → Dec (kind ≡ 1) → Dec (kind ≡ 5) → Unreadable t kind x y
     go (yes h) b c d = kind_under h
     go (no a) (yes h) c d = kind_over h
-    go (no a) (no b) (yes h) d = absurd (false≢true (sym e ∙ or_left (eqb kind 5) (eq-eqb _ _ h)))
-    go (no a) (no b) (no c) (yes h) = absurd (false≢true (sym e ∙ or_right (eqb kind 1) (eq-eqb _ _ h)))
-    go (no a) (no b) (no c) (no d) = absurd (false≢true (sym f ∙ and_both (le-leb 2 kind (omega arith)) (le-leb kind 4 (omega arith))))
+    go (no a) (no b) (yes h) d = absurd (false≢true (sym e ∙ or_left _ (eqb kind 5) (eq-eqb _ _ h)))
+    go (no a) (no b) (no c) (yes h) = absurd (false≢true (sym e ∙ or_right (eqb kind 1) _ (eq-eqb _ _ h)))
+    go (no a) (no b) (no c) (no d) = absurd (false≢true (sym f ∙ and_from _ _ (le-leb 2 kind (omega arith)) (le-leb kind 4 (omega arith))))
 
 cause : (t : Table) (kind x y : ℕ) → Cause t kind x y (reading t kind x y)
 unfolding reading
@@ -87,11 +88,11 @@ cause t kind x y = go (of_node kind) refl (of_link kind) refl
 -- kinds 2 to 4 are a link's, kinds 1 and 5 a node's
 link_kind : (kind : ℕ) → 2 ≤ kind → kind ≤ 4 → (of_node kind ≡ false) × (of_link kind ≡ true)
 link_kind kind low high =
-    (rw (ne_eqb kind 1 (omega arith), ne_eqb kind 5 (omega arith)), and_both (le-leb 2 kind low) (le-leb kind 4 high))
+    (rw (ne_eqb kind 1 (omega arith), ne_eqb kind 5 (omega arith)), and_from _ _ (le-leb 2 kind low) (le-leb kind 4 high))
 
 node_kind : (kind : ℕ) → (kind ≡ 1) ⊎ (kind ≡ 5) → of_node kind ≡ true
-node_kind kind (inl e) = or_left (eqb kind 5) (eq-eqb kind 1 e)
-node_kind kind (inr e) = or_right (eqb kind 1) (eq-eqb kind 5 e)
+node_kind kind (inl e) = or_left _ (eqb kind 5) (eq-eqb kind 1 e)
+node_kind kind (inr e) = or_right (eqb kind 1) _ (eq-eqb kind 5 e)
 
 -- 9 is given on each of its grounds
 reads_nine : (t : Table) (kind x y : ℕ) → Unreadable t kind x y → reading t kind x y ≡ unread 9
@@ -130,7 +131,7 @@ reads_ten t kind x y h =
     rw ((link_kind kind h.low h.high).0, (link_kind kind h.low h.high).1, lt-ltb x t.nodes h.first, lt-ltb y t.nodes h.second, nowhere, le-ltb t.links t.links (omega arith))
   where
     parted : (i : ℕ) → i < t.links → joins t x y i ≡ false
-    parted i l = ⊎_elim (λ e. let (b, p, q) = joins_either t x y i e in absurd (h.apart i b l p q)) (λ e. e) (either (joins t x y i))
+    parted i l = ⊎_elim (λ e. let (b, p, q) = joins_either t x y i e in absurd (h.apart i b l p q)) (λ e. e) (cases_Bool (joins t x y i))
 
     nowhere : link_between t x y ≡ t.links
     nowhere = least_none t.links (joins t x y) t.links (some_none t.links (joins t x y) parted)
@@ -189,7 +190,7 @@ module _ (t : Table) (ends : EndsBelow t) (loops : NoSelfLink t) (repeats : NoRe
   module _ (s : State) (marks : SoundMarks t s) where
     -- a step that isn't possible, as tested
     fails : (step : Step) → (Possible t s step → ⊥) → possible t s step ≡ false
-    fails step h = ⊎_elim (λ e. absurd (h ((possible_plainly t s marks step).0 e))) (λ e. e) (either (possible t s step))
+    fails step h = ⊎_elim (λ e. absurd (h ((possible_plainly t s marks step).0 e))) (λ e. e) (cases_Bool (possible t s step))
 
     -- a ground gives its number
     pub action_given : {number : ℕ} → ActionRefused t s kind x y number → refused_by t s (reading t kind x y) ≡ number
@@ -210,6 +211,6 @@ module _ (t : Table) (ends : EndsBelow t) (loops : NoSelfLink t) (repeats : NoRe
         can step e (inr p) = inr (11, not_possible step (step_named step e) (λ q. clash ((possible_plainly t s marks step).1 q) p))
 
         go : (r : Reading) → reading t kind x y ≡ r → Cause t kind x y r → ActionTaken t s kind x y (state_after t s (reading t kind x y)) ⊎ ((number : ℕ) × ActionRefused t s kind x y number)
-        go r e (named step) = can step e (either (possible t s step))
+        go r e (named step) = can step e (cases_Bool (possible t s step))
         go r e (nine h) = inr (9, unreadable h)
         go r e (ten h) = inr (10, no_link h)

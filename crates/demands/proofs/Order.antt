@@ -1,15 +1,13 @@
 -- The order of refusals: the first of a list, and the checks of the table as one.
 use Prim.Native.Nat.{ℕ}
-use mathlib.Core.Bool.{Bool, true, false, not, cond}
+use mathlib.Core.Bool.{Bool, true, false, cond}
 use mathlib.Core.Path.{◌≡◌, refl, sym, ap, ◌∙◌}
 use mathlib.Core.List.{List, [], ◌∷◌, ◌++◌}
-use lib.ListN.{length}
-use lib.Dec.{ltb, eqb}
+use lib.Dec.{eqb}
 use native.Mathlib.Decide.{ℕ_discrete}
-use Rattle.paper.specs.Upload.{nodes_of, links_of, actions_of, exact_length}
-use Rattle.paper.specs.Table.{table_of, one_piece}
-use Rattle.paper.specs.Refusals.{Refusal, accepted, given, first, in_range, links_refusal, Tried, refusal, table_refusal}
+use Rattle.paper.specs.Refusals.{Refusal, accepted, given, first, Tried, refusal, table_refusal}
 use Rattle.table.proofs.Order.{first_skip, first_stop}
+use Rattle.table.proofs.Most.{table_checks}
 
 -- a list of checks counts as its first refusal
 pub first_of_first : (xs ys : List Refusal) → first (xs ++ ys) ≡ first (first xs ∷ ys)
@@ -19,16 +17,6 @@ first_of_first (r ∷ rs) ys = go (ℕ_discrete r.number 0) (first_of_first rs y
     go : Dec (r.number ≡ 0) → first (rs ++ ys) ≡ first (first rs ∷ ys) → first (r ∷ (rs ++ ys)) ≡ first (first (r ∷ rs) ∷ ys)
     go (yes e) below = first_skip r (rs ++ ys) e ∙ below ∙ ap (λ (q : Refusal). first (q ∷ ys)) (sym (first_skip r rs e))
     go (no e) below = first_stop r (rs ++ ys) e ∙ sym (first_stop r ys e) ∙ ap (λ (q : Refusal). first (q ∷ ys)) (sym (first_stop r rs e))
-
--- the five checks of a table
-table_checks : List ℕ → List Refusal
-table_checks upload =
-    given (ltb (length upload) 4) 3 0
-    ∷ given (not (in_range (nodes_of upload) (links_of upload) (actions_of upload))) 4 0
-    ∷ given (not (eqb (length upload) (exact_length upload))) 3 0
-    ∷ links_refusal (table_of upload) 0 (links_of upload)
-    ∷ given (not (one_piece (table_of upload))) 8 0
-    ∷ []
 
 -- a refusal with nothing behind it
 nothing_behind : (r : Refusal) (rs : List Refusal) → first (first (r ∷ accepted ∷ accepted ∷ accepted ∷ []) ∷ rs) ≡ first (r ∷ rs)

@@ -11,7 +11,8 @@ use Rattle.paper.specs.Table.{Table}
 use Rattle.paper.specs.State.{none, State}
 use Rattle.paper.specs.Steps.{Step, children_known, add_child, acknowledge, resolve, become_root, unheard, carries, is_request, sends, out_of, at, at_direction, possible, effect, after, taken}
 use Rattle.paper.specs.Report.{moving, outcome_of, outcome_at_rest, roots, waiting_count}
-use Rattle.counting.proofs.Booleans.{and_left, and_right, and_both}
+use Rattle.std.proofs.lemmas.Bool.{and_from}
+use Rattle.counting.proofs.Booleans.{and_left, and_right}
 use Rattle.paper.proofs.Changes.{InTable, possible_in_table}
 use Rattle.paper.proofs.Moving.{moves, moving_step}
 use Rattle.election.proofs.Updates.{same_test}
@@ -83,7 +84,7 @@ module _ (t : Table) (f : ℕ → Bool → ℕ) (same : SameEnds t f) where
       let p = and_left (possible t s x) _ h in
       let (rest, end) = taken_alike (effect t s x) xs (and_right (possible t s x) _ h) in
       let e = effect_alike s x (possible_in_table t s x p) in
-      (and_both (possible_alike s x p) (ap (λ s. taken (with_ends t f) s xs) (sym e) ∙ rest), end ∙ ap (λ s. after (with_ends t f) s xs) e)
+      (and_from _ _ (possible_alike s x p) (ap (λ s. taken (with_ends t f) s xs) (sym e) ∙ rest), end ∙ ap (λ s. after (with_ends t f) s xs) e)
 
   moves_alike : (s : State) → moving t s ≡ true → moving (with_ends t f) s ≡ true
   moves_alike s h = let (x, p) = moving_step t s h in moves (with_ends t f) s x (possible_alike s x p)

@@ -9,6 +9,7 @@ use Rattle.paper.specs.State.{none, request, State}
 use Rattle.paper.specs.Steps.{at_direction}
 use mathlib.Core.Bool.{not-not}
 use Rattle.counting.proofs.Booleans.{clash}
+use Rattle.counting.proofs.Directions.{not_same}
 use Rattle.election.specs.Local.{Local}
 use Rattle.election.proofs.Updates.{fails, either, Same, same, on_direction, off_direction, direction_elim}
 use Rattle.election.proofs.Messages.{loaded}
@@ -22,10 +23,6 @@ pub turned_back : {i : ℕ} {b : Bool} {j : ℕ} {c : Bool} → Same i (not b) j
 turned_back {b} e = (e.0, ap not e.1 ∙ not-not b)
 
 -- no direction is its own reverse
-pub never_own : (b : Bool) → not b ≡ b → ⊥
-never_own true e = clash e refl
-never_own false e = clash refl e
-
 module _ (s : State) (i : ℕ) (b : Bool) where
   -- the marks with the new one
   abbrev pub marked : ℕ → Bool → Bool
@@ -66,7 +63,7 @@ module _ (s : State) (i : ℕ) (b : Bool) where
     pub marked_one_way : (j : ℕ) (c : Bool) → j < t.links → marked j c ≡ true → marked j (not c) ≡ false
     marked_one_way j c lt h =
         either (same i b j c)
-        (λ e. reverse_unmarked j c (λ r. never_own b (sym r.1 ∙ e.1)) (rw (e.0, e.1) back))
+        (λ e. reverse_unmarked j c (λ r. not_same b (sym r.1 ∙ e.1)) (rw (e.0, e.1) back))
         (λ n.
         let had : s.child j c ≡ true = sym (marked_off n) ∙ h in
         reverse_unmarked j c (λ r. clash (rw (r.0, r.1) at had) back) (L.one_way j c lt had))

@@ -7,13 +7,8 @@ use native.Mathlib.Decide.{ℕ_discrete}
 use Rattle.counting.specs.Count.{bit}
 use Rattle.counting.proofs.Sums.{sum_le, sum_term, sum_pair}
 use Rattle.paper.specs.Table.{Table, directions}
-use Rattle.counting.proofs.Booleans.{clash}
+use Rattle.counting.proofs.Bits.{bit_mono}
 use Rattle.election.proofs.Updates.{either, Same}
-
-bit_le : (p q : Bool) → (p ≡ true → q ≡ true) → bit p ≤ bit q
-bit_le true true h = omega arith
-bit_le true false h = clash (h refl) refl
-bit_le false q h = omega arith
 
 -- a stronger test passes for fewer directions
 pub directions_le : (t : Table) (p q : ℕ → Bool → Bool) → ((i : ℕ) (b : Bool) → i < t.links → p i b ≡ true → q i b ≡ true) → directions t p ≤ directions t q
@@ -23,8 +18,8 @@ directions_le t p q h =
     (λ i. bit (p i false) + bit (p i true))
     (λ i. bit (q i false) + bit (q i true))
     (λ k lt.
-    let first = bit_le (p k false) (q k false) (h k false lt) in
-    let second = bit_le (p k true) (q k true) (h k true lt) in
+    let first = bit_mono (p k false) (q k false) (h k false lt) in
+    let second = bit_mono (p k true) (q k true) (h k true lt) in
     omega arith)
 
 passed : (p : ℕ → Bool → Bool) (i : ℕ) (b : Bool) → p i b ≡ true → 1 ≤ bit (p i false) + bit (p i true)

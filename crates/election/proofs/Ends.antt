@@ -13,13 +13,13 @@ use Rattle.counting.proofs.Sums.{sum_add, sum_le, sum_ones, sum_change, count_be
 use Rattle.counting.proofs.Directions.{both_eq, both_gain}
 use Rattle.paper.specs.Table.{Table, source, target, directions, EndsBelow, NoSelfLink}
 use Rattle.paper.specs.State.{State}
-use Rattle.paper.specs.Steps.{Step, children_known, add_child, acknowledge, resolve, become_root, carries, is_request, sends, at, possible, effect, taken, is_resolve}
+use Rattle.paper.specs.Steps.{Step, children_known, add_child, acknowledge, resolve, become_root, carries, is_request, at, possible, effect, taken, is_resolve}
 use Rattle.paper.specs.Report.{roots}
 use Rattle.paper.specs.Meanings.{SoundMarks}
 use Rattle.paper.proofs.Images.{sound_kept}
 use Rattle.election.specs.Demand.{RunsEnd}
 use Rattle.election.proofs.Updates.{fails, at_place, at_other}
-use Rattle.election.proofs.Messages.{loaded}
+use Rattle.election.proofs.Messages.{loaded, sends_something}
 use Rattle.election.proofs.MessageRead.{unread, unread_on, unread_off}
 use Rattle.election.proofs.Possible.{children_known_possible, add_child_possible, acknowledge_possible, resolve_possible, become_root_possible}
 
@@ -42,10 +42,6 @@ potential t s = stopped t s + done t s + roots t s
 abbrev pub idle : Table → State → ℕ
 idle t s = count t.nodes (λ x. not (s.contending x))
 
-carries_sends : (c : Bool) → carries (sends c) ≡ true
-carries_sends true = refl
-carries_sends false = refl
-
 -- the two nodes of a link are not the same
 pub ends_differ : (t : Table) → NoSelfLink t → (i : ℕ) (b : Bool) → i < t.links → source t i b ≡ target t i b → ⊥
 ends_differ t apart i false l e = apart i l e
@@ -60,7 +56,7 @@ module _ (t : Table) (s : State) where
     where
       same : (i : ℕ) (b : Bool) → i < t.links → Dec (source t i b ≡ x) → is_done t (effect t s (children_known x)) i b ≡ is_done t s i b
       same i b l (yes e) =
-          rw (eq-eqb (source t i b) x e, lt-ltb i t.links l, carries_sends (s.child i (not b)), e, w) refl
+          rw (eq-eqb (source t i b) x e, lt-ltb i t.links l, sends_something (s.child i (not b)), e, w) refl
       same i b l (no d) = rw (ne_eqb (source t i b) x d, lt-ltb i t.links l) refl
 
   -- Kinds 2 and 3 take the message off a direction: it was not done, and is.

@@ -1,5 +1,5 @@
 -- What a call is refused for: the table's refusal first, then what the call itself tries.
-use Prim.Native.Nat.{ℕ, zero, suc, ◌≤◌}
+use Prim.Native.Nat.{ℕ}
 use mathlib.Core.Bool.{Bool, true, false, not, cond, ◌&&◌, ◌||◌}
 use mathlib.Core.Path.{◌≡◌, refl, sym, ap, ◌∙◌}
 use mathlib.Core.Logic.{◌⊎◌, inl, inr}
@@ -12,9 +12,10 @@ use borrow.Author.Tests.{eq-eqb, ne_eqb, lt-leb}
 use Rattle.paper.specs.Upload.{nodes_of, links_of, actions_of, exact_length}
 use Rattle.paper.specs.Table.{Table, table_of, one_piece}
 use Rattle.paper.specs.State.{State}
-use Rattle.paper.specs.Refusals.{Refusal, accepted, given, first, in_range, names_no_node, joins_itself, repeats, link_refusal, links_refusal, refusal, table_refusal}
+use Rattle.paper.specs.Refusals.{Refusal, accepted, given, first, in_range, links_refusal, refusal, table_refusal}
 use Rattle.paper.specs.Calls.{refused_with, reported, answered, trying, has_state}
 use Rattle.table.proofs.Order.{first_skip, first_stop}
+use Rattle.table.proofs.Most.{table_most}
 
 -- the first of two lists is the second's where the first refuses nothing, else the first's
 abbrev Either : List Refusal → List Refusal → Refusal → Type 0
@@ -55,49 +56,6 @@ behind upload image action = go (first_append (checks upload) (image ∷ action 
     go (inl (z, e)) (inr (w, f)) = absurd (w z)
     go (inr (z, e)) (inl (w, f)) = absurd (z w)
     go (inr (z, e)) (inr (w, f)) = inr (λ q. w (sym (ap (λ (r : Refusal). r.number) f) ∙ q), e ∙ sym f)
-
--- every number of a list is 8 or less
-AtMost : List Refusal → Type 0
-AtMost [] = Unit {0}
-AtMost (r ∷ rs) = (r.number ≤ 8) × AtMost rs
-
-first_most : (rs : List Refusal) → AtMost rs → (first rs).number ≤ 8
-unfolding AtMost
-first_most [] h = omega arith
-first_most (r ∷ rs) h = go (eqb r.number 0) (first_most rs h.1)
-  where
-    go : (b : Bool) → (first rs).number ≤ 8 → (cond b (first rs) r).number ≤ 8
-    go true below = below
-    go false below = h.0
-
-given_most : (test : Bool) (number place : ℕ) → number ≤ 8 → (given test number place).number ≤ 8
-given_most true number place h = h
-given_most false number place h = omega arith
-
-links_most : (t : Table) (i k : ℕ) → (links_refusal t i k).number ≤ 8
-unfolding links_refusal AtMost
-links_most t i zero = omega arith
-links_most t i (suc k) =
-    first_most (link_refusal t i ∷ links_refusal t (suc i) k ∷ []) (link, (links_most t (suc i) k, tt))
-  where
-    link : (link_refusal t i).number ≤ 8
-    link =
-        first_most (given (names_no_node t i) 5 i ∷ given (joins_itself t i) 6 i ∷ given (repeats t i) 7 i ∷ [])
-        (given_most (names_no_node t i) 5 i (omega arith), (given_most (joins_itself t i) 6 i (omega arith), (given_most (repeats t i) 7 i (omega arith), tt)))
-
--- a table is refused by 8 or less
-table_most : (upload : List ℕ) → (table_refusal upload).number ≤ 8
-unfolding refusal checks AtMost
-table_most upload = go (first_append (checks upload) (accepted ∷ accepted ∷ accepted ∷ []))
-  where
-    most : (first (checks upload)).number ≤ 8
-    most =
-        first_most (checks upload)
-        (omega arith, (omega arith, (given_most (ltb (length upload) 4) 3 0 (omega arith), (given_most (not (in_range (nodes_of upload) (links_of upload) (actions_of upload))) 4 0 (omega arith), (given_most (not (eqb (length upload) (exact_length upload))) 3 0 (omega arith), (links_most (table_of upload) 0 (links_of upload), (given_most (not (one_piece (table_of upload))) 8 0 (omega arith), tt)))))))
-
-    go : Either (checks upload) [] (table_refusal upload) → (table_refusal upload).number ≤ 8
-    go (inl (z, e)) = let n = ap (λ (r : Refusal). r.number) e in omega arith
-    go (inr (z, e)) = let n = ap (λ (r : Refusal). r.number) e in let m = most in omega arith
 
 -- a refused table leaves no state to report
 pub no_state : (upload : List ℕ) → ((table_refusal upload).number ≡ 0 → ⊥) → has_state (table_refusal upload) ≡ false

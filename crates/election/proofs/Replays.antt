@@ -15,7 +15,8 @@ use Rattle.paper.specs.Steps.{Step, possible, effect, after, taken}
 use Rattle.paper.specs.Actions.{Reading, names, node_step, link_step, direction_from, reading, refused_by, state_after}
 use Rattle.paper.specs.Refusals.{accepted}
 use Rattle.paper.specs.Calls.{Replayed, action_of, replay_from, replayed}
-use Rattle.counting.proofs.Booleans.{either, clash, and_left, and_right, and_both}
+use Rattle.std.proofs.lemmas.Bool.{cases_Bool, and_from}
+use Rattle.counting.proofs.Booleans.{clash, and_left, and_right}
 use Rattle.paper.proofs.Kept.{possible_taken}
 use Rattle.paper.proofs.Readings.{Read, at_node, for_link, not_read, read}
 use Rattle.election.specs.Demand.{NamesFrom, ReplayIsRun}
@@ -28,7 +29,7 @@ pub tried : (t : Table) (s : State) (kind x y : ℕ) → Tried t s (reading t ki
 tried t s kind x y = go (read t kind x y)
   where
     step : (z : Step) → Tried t s (names z)
-    step z = ⊎_elim (λ e. inl (z, refl, e)) (λ e. inr (λ q. clash (possible_taken t s z q) e)) (either (possible t s z))
+    step z = ⊎_elim (λ e. inl (z, refl, e)) (λ e. inr (λ q. clash (possible_taken t s z q) e)) (cases_Bool (possible t s z))
 
     go : {r : Reading} → Read t kind x y r → Tried t s r
     go (at_node node h f) = step (node_step kind x)
@@ -72,7 +73,7 @@ module _ (upload : List ℕ) where
       go (inr h) rest =
           let e = stop s i k h in
           ([], record { named = tt; taking = refl; steps = ap (λ (r : Replayed). r.steps) e ∙ omega arith; state = ap (λ (r : Replayed). r.state) e; all = λ q. absurd (h (rw (← ap (λ (r : Replayed). r.refusal.number) e) q)) })
-      go (inl (z, e, p)) rest = let (xs, f) = rest z in let same = next s i k z e p in let n = f.steps in (z ∷ xs, record { named = (e, f.named); taking = and_both p f.taking; steps = ap (λ (r : Replayed). r.steps) same ∙ omega arith; state = ap (λ (r : Replayed). r.state) same ∙ f.state; all = λ q. ap suc (f.all (rw (← ap (λ (r : Replayed). r.refusal.number) same) q)) })
+      go (inl (z, e, p)) rest = let (xs, f) = rest z in let same = next s i k z e p in let n = f.steps in (z ∷ xs, record { named = (e, f.named); taking = and_from _ _ p f.taking; steps = ap (λ (r : Replayed). r.steps) same ∙ omega arith; state = ap (λ (r : Replayed). r.state) same ∙ f.state; all = λ q. ap suc (f.all (rw (← ap (λ (r : Replayed). r.refusal.number) same) q)) })
 
   pub replay_run : (xs : List Step) × ReplayIsRun upload xs × ((replayed upload).refusal.number ≡ 0 → length xs ≡ actions_of upload)
   unfolding replayed

@@ -13,7 +13,7 @@ use Rattle.paper.specs.Steps.{Step, possible, effect, after, taken, Still}
 use Rattle.paper.specs.Actions.{reading, refused_by, state_after, listed}
 use Rattle.paper.specs.Runner.{Ran, longest, run_from}
 use Rattle.paper.specs.Meanings.{NoRepeat, Stands, Ascending, ListsSteps}
-use Rattle.counting.proofs.Booleans.{and_both}
+use Rattle.std.proofs.lemmas.Bool.{and_from}
 use Rattle.paper.proofs.Moving.{moving_still}
 use Rattle.paper.proofs.Listed.{lists_steps}
 use Rattle.election.specs.Demand.{RunnerStops, RunnerAlwaysStops}
@@ -54,7 +54,7 @@ module _ (t : Table) (bytes : t.nodes ≤ 255) (below : EndsBelow t) (apart : No
   runs zero s begun = ([], record { taking = refl; steps = omega arith; state = refl; stops = go (some_step t s) })
     where
       go : ((x : Step) × (possible t s x ≡ true)) ⊎ Still t s → AtRest s ⊎ ((ys : List Step) × (taken t s ys ≡ true) × (length ys ≡ 1))
-      go (inl (x, e)) = inr (x ∷ [], and_both e refl, refl)
+      go (inl (x, e)) = inr (x ∷ [], and_from _ _ e refl, refl)
       go (inr still) = inl (still_rest s still)
   runs (suc k) s begun = go (listed t s) refl (λ z. runs k (effect t s z) (suc begun))
     where
@@ -80,11 +80,11 @@ module _ (t : Table) (bytes : t.nodes ≤ 255) (below : EndsBelow t) (apart : No
               let (xs, f) = rest z in
               let same : run_from t (suc k) s begun ≡ run_from t k (effect t s z) (suc begun) = ap end e ∙ ap (λ r. run_from t k (state_after t s r) (suc begun)) named in
               let n = f.steps in
-              (z ∷ xs, record { taking = and_both p f.taking; steps = ap (λ (r : Ran). r.steps) same ∙ omega arith; state = ap (λ (r : Ran). r.state) same ∙ f.state; stops = more z p (subst (λ (r : Ran). AtRest r.state ⊎ ((ys : List Step) × (taken t (effect t s z) ys ≡ true) × (length ys ≡ suc k))) (sym same) f.stops) })
+              (z ∷ xs, record { taking = and_from _ _ p f.taking; steps = ap (λ (r : Ran). r.steps) same ∙ omega arith; state = ap (λ (r : Ran). r.state) same ∙ f.state; stops = more z p (subst (λ (r : Ran). AtRest r.state ⊎ ((ys : List Step) × (taken t (effect t s z) ys ≡ true) × (length ys ≡ suc k))) (sym same) f.stops) })
             where
               more : (z : Step) → possible t s z ≡ true → AtRest (run_from t (suc k) s begun).state ⊎ ((ys : List Step) × (taken t (effect t s z) ys ≡ true) × (length ys ≡ suc k)) → AtRest (run_from t (suc k) s begun).state ⊎ ((ys : List Step) × (taken t s ys ≡ true) × (length ys ≡ suc (suc k)))
               more z p (inl rest) = inl rest
-              more z p (inr (ys, q, l)) = inr (z ∷ ys, and_both p q, ap suc l)
+              more z p (inr (ys, q, l)) = inr (z ∷ ys, and_from _ _ p q, ap suc l)
 
   -- from every state with sound marks
   pub runner_still : RunnerAlwaysStops t

@@ -10,6 +10,7 @@ use Rattle.paper.specs.Table.{Table, source, target}
 use Rattle.paper.specs.Steps.{at, at_direction}
 use mathlib.Core.Bool.{not-not}
 use Rattle.paper.proofs.Changes.{at_away}
+use Rattle.counting.proofs.Booleans.{beq_same}
 
 -- a test that cannot pass fails, and one that cannot fail passes
 pub fails : (b : Bool) → (b ≡ true → ⊥) → b ≡ false
@@ -55,16 +56,12 @@ beq_true true false e = sym e
 beq_true false true e = e
 beq_true false false e = refl
 
-beq_self : (b : Bool) → beq b b ≡ true
-beq_self true = refl
-beq_self false = refl
-
 module _ {A : Type 0} (f : ℕ → Bool → A) (i : ℕ) (b : Bool) (a : A) where
   pub on_direction : {j : ℕ} {c : Bool} → Same i b j c → at_direction f i b a j c ≡ a
   on_direction {j} {c} e =
       ap
       (λ (r : Bool). cond r a (f j c))
-      ((and-eq-true_iff (eqb j i) (beq c b)).1 (eq-eqb j i e.0, rw e.1 (beq_self b)))
+      ((and-eq-true_iff (eqb j i) (beq c b)).1 (eq-eqb j i e.0, rw e.1 (beq_same b)))
 
   pub off_direction : {j : ℕ} {c : Bool} → (Same i b j c → ⊥) → at_direction f i b a j c ≡ f j c
   off_direction {j} {c} n =

@@ -1,22 +1,11 @@
--- What the step with which a list begins is: one step and no other, and in the list of possible steps one that is possible.
-use Rattle.std.proofs.Common.{ℕ, List, [], true, inl, ◌≡◌, refl, sym, ap, ◌∙◌}
-use mathlib.Core.Path.{subst⁻¹}
+-- What the step with which a list begins is: one step and no other.
+use Rattle.std.proofs.Common.{ℕ, List, [], ◌≡◌, sym, ap, ◌∙◌}
 use Rattle.paper.specs.Upload.{byte_at}
 use Rattle.paper.specs.Table.{Table}
-use Rattle.paper.specs.State.{State}
-use Rattle.paper.specs.Steps.{Step, possible}
-use Rattle.paper.specs.Actions.{reading, refused_by, listed}
-use Rattle.paper.specs.Meanings.{kind_of, first_of, second_of, Stands}
-use Rattle.paper.proofs.Kept.{possible_taken}
-use Rattle.paper.proofs.Listed.{listed_exactly}
+use Rattle.paper.specs.Steps.{Step}
+use Rattle.paper.specs.Actions.{reading}
+use Rattle.paper.specs.Meanings.{kind_of, first_of, second_of}
 use Rattle.first.specs.Leads.{Begins}
-
-pub begins_possible : (t : Table) (s : State) {x : Step} → Begins t (listed t s) x → possible t s x ≡ true
-begins_possible t s {x} h =
-    possible_taken t s x
-    (sym (ap (refused_by t s) h.reads)
-    ∙ (listed_exactly t s (kind_of x) (first_of t x) (second_of t x)).0
-    (subst⁻¹ (Stands (kind_of x) (first_of t x) (second_of t x)) h.begins (inl (refl, refl, refl))))
 
 pub begins_some : (t : Table) (l : List ℕ) {x : Step} → Begins t l x → l ≡ [] → ⊥
 begins_some t l h e = let both = sym e ∙ h.begins in cc

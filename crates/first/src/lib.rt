@@ -23,7 +23,7 @@ fn first_at_nodes(view: &View, kind: NodeKind) -> Option<Step>
         .map(|x| Step::Node(kind, x))
 }
 
-// The nodes of a direction as one number: its source, then its target.
+// The nodes of a direction as one number: its source, then its target; one comparison in place of two.
 fn pair(view: &View, d: Direction) -> usize
     requires { d.link < (table view.now).links }
     ensures { result ≡ pair (table view.now) d.link d.back }
@@ -50,7 +50,7 @@ fn first_on_links(view: &View, kind: LinkKind) -> Option<Step>
     first.map(|(_, d)| Step::Link(kind, d))
 }
 
-// The first step of the list.
+// The first step of the list. By early returns: `or_else` tells a proof nothing of a closure whose contract is no equation.
 pub fn first_listed(view: &View) -> Option<Step>
     ensures { Leads (table view.now) (listed (table view.now) (shown view.now)) result }
 {

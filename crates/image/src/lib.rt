@@ -65,6 +65,7 @@ pub fn wake(cabling: &Cabling, image: &mut [u8])
     image[..cabling.nodes()].fill(1);
 }
 
+// Five bytes by five effects, each as its own definition says it.
 // A node byte without waiting.
 fn stopped_byte(k: u8) -> u8
     ensures { result ≡ stopped_byte k }
@@ -111,6 +112,8 @@ fn sends(child: bool) -> Message
     }
 }
 
+// A cabling and a lent image stay two parameters: of a struct that held the image each function would have to say besides that it keeps the table and the buffer, and
+// the theorem of no second answer could not be stated of it as it is of a lent slice.
 // Kind 3: the target contends if the message was a request, else not; the message is removed.
 fn acknowledge(cabling: &Cabling, image: &mut [u8], d: Direction)
     requires image_is_sound { SoundImage (cables cabling.now) image.old }

@@ -10,7 +10,8 @@ ghost use Rattle.lines.specs.Output.{no_room, written, Output};
 
 use paper::Answer;
 
-// A text in a lent buffer, and the place where its next byte goes.
+// A text in a lent buffer, and the place where its next byte goes; each method asks for its own bound on the place. Numbers below 10 or 65,536 are cast: std has no
+// `From` to a narrower type, and `TryFrom` would add a branch that no input takes.
 #[derive(Drop)]
 struct Text<'a> {
     out: &'a mut [u8],
@@ -30,7 +31,7 @@ impl Text<'_> {
     }
 
     // The digit of a number at a power of ten, where the number reaches it.
-    fn digit(&mut self, k: usize, power: usize)
+    fn digit(&mut self, k: u16, power: u16)
         requires { (self.old.at < 2 ^ 32) × (0 < power) }
         ensures { Writes self.old (reached_digit power k) self.new }
     {
@@ -39,10 +40,10 @@ impl Text<'_> {
         }
     }
 
-    // A number below 100,000 in decimal. By itoa, whose digits lie in a buffer of their own, a text of 64 lines took a third longer;
+    // A number in decimal. By itoa, whose digits lie in a buffer of their own, a text of 64 lines took a third longer;
     // `write!` promises its bytes only on Ok, and promises no Ok.
-    fn decimal(&mut self, k: usize)
-        requires { (self.old.at < 2 ^ 31) × (k < 100000) }
+    fn decimal(&mut self, k: u16)
+        requires { self.old.at < 2 ^ 31 }
         ensures { Writes self.old (decimal k) self.new × (self.new.at ≤ self.old.at + 5) }
     {
         self.digit(k, 10000);
@@ -53,8 +54,8 @@ impl Text<'_> {
     }
 
     // One space, and a number in decimal.
-    fn next(&mut self, k: usize)
-        requires { (self.old.at < 2 ^ 31 - 1) × (k < 100000) }
+    fn next(&mut self, k: u16)
+        requires { self.old.at < 2 ^ 31 - 1 }
         ensures { Writes self.old (space ∷ decimal k) self.new × (self.new.at ≤ self.old.at + 6) }
     {
         self.push(b' ');
@@ -62,17 +63,17 @@ impl Text<'_> {
     }
 
     // A line: the entry's number and the six numbers of its answer.
-    fn line(&mut self, number: usize, answer: Answer)
-        requires { (self.old.at < 2 ^ 30) × (number < 100000) }
+    fn line(&mut self, number: u16, answer: Answer)
+        requires { self.old.at < 2 ^ 30 }
         ensures { Writes self.old (line_of number answer) self.new × (self.new.at ≤ self.old.at + 42) }
     {
         self.decimal(number);
-        self.next(answer.refusal as usize);
-        self.next(answer.place as usize);
-        self.next(answer.steps as usize);
-        self.next(answer.outcome as usize);
-        self.next(answer.root as usize);
-        self.next(answer.waiting as usize);
+        self.next(u16::from(answer.refusal));
+        self.next(answer.place);
+        self.next(answer.steps);
+        self.next(u16::from(answer.outcome));
+        self.next(u16::from(answer.root));
+        self.next(u16::from(answer.waiting));
         self.push(b'\n');
     }
 }
@@ -84,13 +85,12 @@ fn put_lines(answers: &[Answer], out: &mut [u8])
 {
     let mut text = Text { out, at: 0 };
     for (i, answer) in answers.iter().enumerate() {
-        text.line(i, *answer);
+        text.line(i as u16, *answer);
     }
 }
 
-// How many digits a number below 100,000 has in decimal. A chain that counts the powers took twice as long.
-fn width(k: usize) -> usize
-    requires { k < 100000 }
+// How many digits a number has in decimal. A chain that counts the powers took twice as long.
+fn width(k: u16) -> usize
     ensures { (result ≡ length (decimal k)) × (result ≤ 5) }
 {
     1 + usize::from(10 <= k)
@@ -99,18 +99,17 @@ fn width(k: usize) -> usize
         + usize::from(10000 <= k)
 }
 
-// How long a line is: its seven numbers, six spaces and the newline.
-fn line_width(number: usize, answer: Answer) -> usize
-    requires { number < 100000 }
+// How long a line is, by the numbers that `Text::line` writes: its seven numbers, six spaces and the newline.
+fn line_width(number: u16, answer: Answer) -> usize
     ensures { (result ≡ length (line_of number answer)) × (result ≤ 42) }
 {
     7 + width(number)
-        + width(answer.refusal as usize)
-        + width(answer.place as usize)
-        + width(answer.steps as usize)
-        + width(answer.outcome as usize)
-        + width(answer.root as usize)
-        + width(answer.waiting as usize)
+        + width(u16::from(answer.refusal))
+        + width(answer.place)
+        + width(answer.steps)
+        + width(u16::from(answer.outcome))
+        + width(u16::from(answer.root))
+        + width(u16::from(answer.waiting))
 }
 
 // How long the lines of some answers are.
@@ -121,7 +120,7 @@ fn lines_width(answers: &[Answer]) -> usize
     answers
         .iter()
         .enumerate()
-        .map(|(i, answer)| line_width(i, *answer))
+        .map(|(i, answer)| line_width(i as u16, *answer))
         .sum()
 }
 

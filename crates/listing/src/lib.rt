@@ -4,7 +4,7 @@
 
 ghost use Rattle.std.specs.Prelude.{◌≡◌, ◌*◌, ◌<◌, ◌≤◌, [], ◌∷◌, length, set};
 ghost use Rattle.std.specs.Option.{ForSome};
-ghost use Rattle.paper.specs.Actions.{entries_at, entries_of, listed, direction_from};
+ghost use Rattle.paper.specs.Actions.{entries_at, entries_of, listed};
 ghost use Rattle.paper.specs.Calls.{over};
 ghost use Rattle.upload.specs.Kinds.{node_number, link_number};
 ghost use Rattle.cabling.specs.Cables.{cables};
@@ -18,7 +18,8 @@ use marks::View;
 use upload::Direction;
 use upload::step::{LinkKind, NodeKind};
 
-// The entries of a list, in a lent buffer as far as it has room, and how many they are.
+// The entries of a list, in a lent buffer as far as it has room, and how many they are: it counts entries of three bytes where the text of `lines` counts bytes, so
+// that one of the two over the other would carry a factor through every clause. Numbers below 64 or 128 are cast to bytes: std has no `From` to a narrower type.
 #[derive(Drop)]
 struct Writer<'a> {
     out: &'a mut [u8],
@@ -100,21 +101,6 @@ fn links_from(cabling: &Cabling, x: usize) -> [Option<u8>; 64]
     links
 }
 
-// The direction of link i that comes from x.
-fn direction_from(cabling: &Cabling, i: usize, x: usize) -> Direction
-    requires { i < (cables cabling.now).links }
-    ensures { result ≡ record { link = i; back = direction_from (cables cabling.now) i x } }
-{
-    let forth = Direction {
-        link: i,
-        back: false,
-    };
-    Direction {
-        link: i,
-        back: cabling.source(forth) != x,
-    }
-}
-
 // A step from x is possible on a link, where there is one.
 fn may_list(view: &View, kind: LinkKind, link: Option<u8>, x: usize) -> bool
     requires { ForSome link (λ i. i < (table view.now).links) }
@@ -122,7 +108,7 @@ fn may_list(view: &View, kind: LinkKind, link: Option<u8>, x: usize) -> bool
 {
     match link {
         Some(i) => {
-            automaton::link_possible(view, kind, direction_from(&view.cabling, usize::from(i), x))
+            automaton::link_possible(view, kind, view.cabling.direction_from(usize::from(i), x))
         }
         None => false,
     }

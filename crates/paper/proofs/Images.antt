@@ -13,7 +13,8 @@ use native.Mathlib.Decide.{ℕ_discrete, dec_lt}
 use Rattle.counting.specs.Count.{bit, all, list_of, joined}
 use Rattle.counting.proofs.Bits.{bit_most}
 use Rattle.counting.proofs.Lists.{get_or_below, get_or_from, length_list_of, get_or_list_of}
-use Rattle.counting.proofs.Booleans.{and_left, and_right, and_both}
+use Rattle.std.proofs.lemmas.Bool.{and_from}
+use Rattle.counting.proofs.Booleans.{and_left, and_right}
 use Rattle.counting.proofs.Tests.{all_true, all_holds}
 use Rattle.paper.specs.Upload.{byte_at}
 use Rattle.paper.specs.Table.{Table, source, target, EndsBelow}
@@ -286,15 +287,15 @@ direction_range s i b = omega (arith, bit_most (s.child i b), message_range (s.m
 pub sound_image : (t : Table) (s : State) → SoundMarks t s → Shown t s → sound t (image_of t s) ≡ true
 unfolding sound
 sound_image t s marks shown =
-    and_both (all_holds t.nodes (λ x. ltb (byte_at image x) 8) (λ x h. lt-ltb (byte_at image x) 8 (rw (image_node t s x h) (node_range s x))))
-    (all_holds t.links (λ i. sound_direction t image i false && sound_direction t image i true) (λ i h. and_both (at_each_direction i false h) (at_each_direction i true h)))
+    and_from _ _ (all_holds t.nodes (λ x. ltb (byte_at image x) 8) (λ x h. lt-ltb (byte_at image x) 8 (rw (image_node t s x h) (node_range s x))))
+    (all_holds t.links (λ i. sound_direction t image i false && sound_direction t image i true) (λ i h. and_from _ _ (at_each_direction i false h) (at_each_direction i true h)))
   where
     image : List ℕ
     image = image_of t s
 
     at_each_direction : (i : ℕ) (b : Bool) → i < t.links → sound_direction t image i b ≡ true
     at_each_direction i b h =
-        and_both (lt-ltb (byte_at image (direction_at t i b)) 6 (rw (image_direction t s i b h) (direction_range s i b)))
+        and_from _ _ (lt-ltb (byte_at image (direction_at t i b)) 6 (rw (image_direction t s i b h) (direction_range s i b)))
         (subst (λ r. not (r.waiting (source t i b) && carries (r.message i b)) ≡ true) (sym (state_of_image t s shown)) (quiet_test (s.waiting (source t i b)) (s.message i b) (marks i b h)))
 
 pub sound_kept : (t : Table) (s : State) (x : Step) → SoundMarks t s → SoundMarks t (effect t s x)

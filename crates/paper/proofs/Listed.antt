@@ -10,7 +10,8 @@ use borrow.Author.Tests.{eqb-true, eq-eqb}
 use native.Mathlib.Omega.{arith}
 use native.Mathlib.Decide.{ℕ_discrete}
 use Rattle.counting.specs.Count.{joined}
-use Rattle.counting.proofs.Booleans.{either, clash}
+use Rattle.std.proofs.lemmas.Bool.{cases_Bool}
+use Rattle.counting.proofs.Booleans.{clash}
 use Rattle.paper.specs.Table.{Table, EndsBelow, NoSelfLink}
 use Rattle.paper.specs.State.{State}
 use Rattle.paper.specs.Steps.{Step, possible}
@@ -224,7 +225,7 @@ lists_steps t s bytes ends loops repeats =
     at_rest : listed t s ≡ [] → moving t s ≡ false
     at_rest e =
         ⊎_elim (λ f. let (x, g) = moving_step t s f in absurd (subst (Stands (kind_of x) (first_of t x) (second_of t x)) e (every x g).0)) (λ f. f)
-        (either (moving t s))
+        (cases_Bool (moving t s))
 
     nothing : moving t s ≡ false → listed t s ≡ []
     nothing e =

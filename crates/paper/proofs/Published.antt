@@ -7,7 +7,8 @@ use mathlib.Core.List.{List, [], ◌∷◌}
 use lib.Dec.{eqb, ltb, leb}
 use borrow.Author.Tests.{eqb-true, eq-eqb, ltb-true, lt-ltb, leb-true, le-leb, not-true}
 use Rattle.counting.specs.Count.{bit}
-use Rattle.counting.proofs.Booleans.{and_left, and_right, and_both, either}
+use Rattle.std.proofs.lemmas.Bool.{and_from, cases_Bool}
+use Rattle.counting.proofs.Booleans.{and_left, and_right}
 use Rattle.counting.proofs.Bits.{bit_false}
 use Rattle.counting.proofs.Directions.{both_none, both_zero, both_same, both_unique}
 use Rattle.paper.specs.Table.{Table}
@@ -18,7 +19,7 @@ use Rattle.paper.specs.Published.{Edge, To, inverse, from, empty, hd, tl, append
 
 -- a test of three parts, and what each says
 three : {A B C : Type 0} (a b c : Bool) → (a ≡ true) ↔ A → (b ≡ true) ↔ B → (c ≡ true) ↔ C → (a && (b && c) ≡ true) ↔ (A × B × C)
-three a b c f g h = (λ e. (f.0 (and_left a _ e), g.0 (and_left b c (and_right a _ e)), h.0 (and_right b c (and_right a _ e))), λ k. and_both (f.1 k.0) (and_both (g.1 k.1) (h.1 k.2)))
+three a b c f g h = (λ e. (f.0 (and_left a _ e), g.0 (and_left b c (and_right a _ e)), h.0 (and_right b c (and_right a _ e))), λ k. and_from _ _ (f.1 k.0) (and_from _ _ (g.1 k.1) (h.1 k.2)))
 
 below : (i m : ℕ) → (ltb i m ≡ true) ↔ (i < m)
 below i m = (ltb-true i m, lt-ltb i m)
@@ -45,7 +46,7 @@ abbrev lacks : Table → State → ℕ → ℕ → Bool → Bool
 lacks t s x i b = eqb (t.end i (not b)) x && not (s.child i b)
 
 lacks_child : (t : Table) (s : State) (x : ℕ) (e : Edge) → To t x e → s.child e.link e.end ≡ false → lacks t s x e.link e.end ≡ true
-lacks_child t s x e to h = and_both (eq-eqb _ _ to.1) (ap not h)
+lacks_child t s x e to h = and_from _ _ (eq-eqb _ _ to.1) (ap not h)
 
 lacks_to : (t : Table) (s : State) (x i : ℕ) (b : Bool) → i < t.links → lacks t s x i b ≡ true → To t x (record { link = i; end = b })
 lacks_to t s x i b h e = (h, eqb-true _ _ (and_left (eqb (t.end i (not b)) x) _ e))
@@ -57,16 +58,16 @@ heard_by_all : (t : Table) (s : State) (x : ℕ) → (eqb (unheard t s x) 0 ≡ 
 heard_by_all t s x = (all_heard, none_lacks)
   where
     all_heard : eqb (unheard t s x) 0 ≡ true → (e : Edge) → To t x e → s.child e.link e.end ≡ true
-    all_heard zero e to = ⊎_elim (λ h. h) (λ h. absurd (true≢false (sym (lacks_child t s x e to h) ∙ both_zero t.links (lacks t s x) (eqb-true _ _ zero) e.link e.end to.0))) (either (s.child e.link e.end))
+    all_heard zero e to = ⊎_elim (λ h. h) (λ h. absurd (true≢false (sym (lacks_child t s x e to h) ∙ both_zero t.links (lacks t s x) (eqb-true _ _ zero) e.link e.end to.0))) (cases_Bool (s.child e.link e.end))
 
     none_lacks : ((e : Edge) → To t x e → s.child e.link e.end ≡ true) → eqb (unheard t s x) 0 ≡ true
-    none_lacks all = eq-eqb _ _ (both_none t.links (λ i b. bit (lacks t s x i b)) (λ i b h. bit_false (⊎_elim (λ e. absurd (lacks_none t s x i b e (all _ (lacks_to t s x i b h e)))) (λ e. e) (either (lacks t s x i b)))))
+    none_lacks all = eq-eqb _ _ (both_none t.links (λ i b. bit (lacks t s x i b)) (λ i b h. bit_false (⊎_elim (λ e. absurd (lacks_none t s x i b e (all _ (lacks_to t s x i b h e)))) (λ e. e) (cases_Bool (lacks t s x i b)))))
 
 heard_but_one : (t : Table) (s : State) (x : ℕ) → (leb (unheard t s x) 1 ≡ true) ↔ ((e f : Edge) → To t x e → To t x f → (s.child e.link e.end ≡ true) ⊎ (s.child f.link f.end ≡ true) ⊎ (e ≡ f))
 heard_but_one t s x = (pairwise, at_most_one)
   where
     pairwise : leb (unheard t s x) 1 ≡ true → (e f : Edge) → To t x e → To t x f → (s.child e.link e.end ≡ true) ⊎ (s.child f.link f.end ≡ true) ⊎ (e ≡ f)
-    pairwise one e f to also = go (either (s.child e.link e.end)) (either (s.child f.link f.end))
+    pairwise one e f to also = go (cases_Bool (s.child e.link e.end)) (cases_Bool (s.child f.link f.end))
       where
         go : (s.child e.link e.end ≡ true) ⊎ (s.child e.link e.end ≡ false) → (s.child f.link f.end ≡ true) ⊎ (s.child f.link f.end ≡ false) → (s.child e.link e.end ≡ true) ⊎ (s.child f.link f.end ≡ true) ⊎ (e ≡ f)
         go (inl h) r = inl h

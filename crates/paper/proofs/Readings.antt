@@ -7,7 +7,8 @@ use lib.Dec.{eqb, ltb, leb}
 use borrow.Author.Tests.{eqb-true, ne_eqb, ltb-true, lt-ltb, leb-true}
 use native.Mathlib.Omega.{arith}
 use native.Mathlib.Decide.{ℕ_discrete}
-use Rattle.counting.proofs.Booleans.{eqb_same, and_left, and_right, and_both, or_left, or_right, or_cases, clash}
+use Rattle.std.proofs.lemmas.Bool.{and_from, or_left, or_right, or_cases}
+use Rattle.counting.proofs.Booleans.{eqb_same, and_left, and_right, clash}
 use Rattle.counting.proofs.Tests.{least_only, least_passes}
 use Rattle.paper.specs.Table.{Table, source, target, EndsBelow, NoSelfLink}
 use Rattle.paper.specs.Steps.{Step, children_known, add_child, acknowledge, resolve, become_root}
@@ -105,10 +106,10 @@ read_once t loops x kind a b = go (read t kind a b)
 
 -- a link joins the nodes of each of its directions
 joins_own : (t : Table) (i : ℕ) (b : Bool) → joins t (source t i b) (target t i b) i ≡ true
-joins_own t i false = or_left _ (and_both (eqb_same (t.end i false)) (eqb_same (t.end i true)))
+joins_own t i false = or_left _ _ (and_from _ _ (eqb_same (t.end i false)) (eqb_same (t.end i true)))
 joins_own t i true =
-    or_right (eqb (t.end i false) (t.end i true) && eqb (t.end i true) (t.end i false))
-    (and_both (eqb_same (t.end i false)) (eqb_same (t.end i true)))
+    or_right (eqb (t.end i false) (t.end i true) && eqb (t.end i true) (t.end i false)) _
+    (and_from _ _ (eqb_same (t.end i false)) (eqb_same (t.end i true)))
 
 -- a step on a link is found by the nodes of its direction
 link_read_is : (t : Table) → EndsBelow t → NoSelfLink t → NoRepeat t → (i : ℕ) (b : Bool) → i < t.links → (kind : ℕ) → read_link t kind (source t i b) (target t i b) ≡ names (link_step kind i b)

@@ -1,4 +1,4 @@
-// Document 01 as definitions, with the published automaton beside it and the replays P1 to P12; and the answer of every call.
+// Document 01 as definitions, with the published automaton beside it and the replays P1 to P12; of code only what every call answers.
 
 #![tactic(auto)]
 
@@ -6,7 +6,8 @@ mod refused;
 
 use std::fmt;
 
-// What every call answers: the six numbers of document 01, in its order.
+// What every call answers: the six numbers of document 01, in its order. They stay numbers, since the clause of every call, `result ≡ NAME_answer ..`, and the
+// C interface's word speak of them.
 #[derive(Clone, Copy, Debug, PartialEq, Eq)]
 pub struct Answer {
     pub refusal: u8,

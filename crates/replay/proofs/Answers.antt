@@ -5,6 +5,7 @@ use mathlib.Core.Path.{◌≡◌, refl, sym, ap, ◌∙◌}
 use mathlib.Core.List.{List}
 use lib.ListN.{length}
 use borrow.Author.Tests.{eqb-true}
+use Rattle.std.proofs.lemmas.Bool.{and_parts}
 use Rattle.paper.specs.Table.{Table, table_of}
 use Rattle.paper.specs.State.{State, fresh}
 use Rattle.paper.specs.Image.{image_length, image_of, state_of, fits, sound}
@@ -35,20 +36,16 @@ told {t} {s} {r} number place steps outcome root e f w =
       waiting = w.waiting j;
     }
 
-both_true : (a b : Bool) → (a && b) ≡ true → (a ≡ true) × (b ≡ true)
-both_true true b h = (refl, h)
-both_true false b h = (h, absurd (false≢true h))
-
 -- an accepted upload, and an image of its length
 pub lent_fits : (upload image : List ℕ) → (table_refusal upload).number ≡ 0 → fits (table_of upload) image ≡ true → Lent upload image
 lent_fits upload image h g =
     record { table = accepted_laws upload h; fits = eqb-true (length image) (image_length (table_of upload)) g }
 
 pub lent_here : (upload image : List ℕ) → (table_refusal upload).number ≡ 0 → (fits (table_of upload) image && sound (table_of upload) image) ≡ true → Lent upload image
-lent_here upload image h g = lent_fits upload image h (both_true (fits (table_of upload) image) (sound (table_of upload) image) g).0
+lent_here upload image h g = lent_fits upload image h (and_parts (fits (table_of upload) image) (sound (table_of upload) image) g).0
 
 pub sound_here : (upload image : List ℕ) → (fits (table_of upload) image && sound (table_of upload) image) ≡ true → sound (table_of upload) image ≡ true
-sound_here upload image g = (both_true (fits (table_of upload) image) (sound (table_of upload) image) g).1
+sound_here upload image g = (and_parts (fits (table_of upload) image) (sound (table_of upload) image) g).1
 
 module _ (upload image : List ℕ) where
   pub report_table : ((table_refusal upload).number ≡ 0 → ⊥) → report_answer upload image ≡ refused_with (table_refusal upload)

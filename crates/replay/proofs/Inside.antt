@@ -8,6 +8,7 @@ use lib.Dec.{eqb, ltb, leb}
 use borrow.Author.Tests.{lt-ltb, ltb-true}
 use Rattle.counting.specs.Count.{bit, all, some, least, joined}
 use Rattle.counting.proofs.Sums.{sum_eq}
+use Rattle.counting.proofs.Tests.{all_alike}
 use Rattle.paper.specs.Upload.{byte_at}
 use Rattle.paper.specs.Table.{Table, source, labels, one_piece}
 use Rattle.paper.specs.State.{State, none}
@@ -24,11 +25,6 @@ some_eq : (n : ℕ) (p q : ℕ → Bool) → ((i : ℕ) → i < n → p i ≡ q 
 unfolding some
 some_eq zero p q h = refl
 some_eq (suc n) p q h = let e = some_eq n p q (λ i l. h i (omega arith)) in λ j. e j || h n (omega arith) j
-
-all_eq : (n : ℕ) (p q : ℕ → Bool) → ((i : ℕ) → i < n → p i ≡ q i) → all n p ≡ all n q
-unfolding all
-all_eq zero p q h = refl
-all_eq (suc n) p q h = let e = all_eq n p q (λ i l. h i (omega arith)) in λ j. e j && h n (omega arith) j
 
 least_eq : (n : ℕ) (p q : ℕ → Bool) (d : ℕ) → ((i : ℕ) → i < n → p i ≡ q i) → least n p d ≡ least n q d
 unfolding least
@@ -164,7 +160,7 @@ module _ (t : Table) where
   unfolding sound
   sound_inside image =
       ap (λ (b : Bool). all t.nodes (λ x. ltb (byte_at image x) 8) && b)
-      (all_eq t.links _ _ (λ i l j. direction_inside image i false l j && direction_inside image i true l j))
+      (all_alike t.links _ _ (λ i l j. direction_inside image i false l j && direction_inside image i true l j))
 
   link_inside : (i : ℕ) → i < t.links → link_refusal (inside t) i ≡ link_refusal t i
   link_inside i l =
@@ -193,4 +189,4 @@ module _ (t : Table) where
   pub piece_inside : one_piece (inside t) ≡ one_piece t
   unfolding one_piece
   piece_inside =
-      all_eq t.nodes _ _ (λ x l j. eqb (labels_inside t.links x (omega arith) j) (labels_inside t.links 0 (omega arith) j))
+      all_alike t.nodes _ _ (λ x l j. eqb (labels_inside t.links x (omega arith) j) (labels_inside t.links 0 (omega arith) j))

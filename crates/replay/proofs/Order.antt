@@ -12,6 +12,7 @@ use Rattle.paper.specs.Upload.{nodes_of, links_of, actions_of, exact_length}
 use Rattle.paper.specs.Table.{Table, table_of, one_piece}
 use Rattle.paper.specs.Refusals.{Refusal, accepted, given, first, in_range, names_no_node, joins_itself, repeats, link_refusal, links_refusal, refusal, table_refusal}
 use Rattle.paper.specs.State.{State}
+use Rattle.table.proofs.Most.{table_checks, table_most}
 use Rattle.paper.specs.Calls.{refused_with, answered, left, trying}
 
 pub first_append : (xs ys : List Refusal) → first (xs ++ ys) ≡ cond (eqb (first xs).number 0) (first ys) (first xs)
@@ -21,21 +22,6 @@ first_append (r ∷ rs) ys = go (eqb r.number 0) refl (first_append rs ys)
     go : (b : Bool) → eqb r.number 0 ≡ b → first (rs ++ ys) ≡ cond (eqb (first rs).number 0) (first ys) (first rs) → cond (eqb r.number 0) (first (rs ++ ys)) r ≡ cond (eqb (cond (eqb r.number 0) (first rs) r).number 0) (first ys) (cond (eqb r.number 0) (first rs) r)
     go true e h = rw e h
     go false e h = rw e (rw e)
-
--- every number of a list is at most k
-abbrev Most : ℕ → List Refusal → Type 0
-Most k [] = Unit {0}
-Most k (r ∷ rs) = (r.number ≤ k) × Most k rs
-
--- the five checks of a table
-table_checks : List ℕ → List Refusal
-table_checks upload =
-    given (ltb (length upload) 4) 3 0
-    ∷ given (not (in_range (nodes_of upload) (links_of upload) (actions_of upload))) 4 0
-    ∷ given (not (eqb (length upload) (exact_length upload))) 3 0
-    ∷ links_refusal (table_of upload) 0 (links_of upload)
-    ∷ given (not (one_piece (table_of upload))) 8 0
-    ∷ []
 
 behind : (upload : List ℕ) (image action room : Refusal) → refusal upload (trying image action room) ≡ first (table_checks upload ++ (image ∷ action ∷ room ∷ []))
 unfolding refusal table_checks
@@ -63,39 +49,6 @@ table_accepted upload image action room h =
     go true e p q = rw e at p
     go false e p q =
         absurd (false≢true (sym e ∙ eq-eqb (first (table_checks upload)).number 0 (sym (ap (λ (r : Refusal). r.number) (rw e at q)) ∙ h)))
-
--- the checks of a table give numbers up to 8
-first_most : (k : ℕ) (rs : List Refusal) → Most k rs → (first rs).number ≤ k
-first_most k [] h = omega arith
-first_most k (r ∷ rs) h = pick (eqb r.number 0) (first_most k rs h.1)
-  where
-    pick : (b : Bool) → (first rs).number ≤ k → (cond b (first rs) r).number ≤ k
-    pick true p = p
-    pick false p = h.0
-
-given_most : (k number place : ℕ) (b : Bool) → number ≤ k → (given b number place).number ≤ k
-given_most k number place true h = h
-given_most k number place false h = omega arith
-
-link_most : (t : Table) (i : ℕ) → (link_refusal t i).number ≤ 8
-link_most t i =
-    first_most 8 (given (names_no_node t i) 5 i ∷ given (joins_itself t i) 6 i ∷ given (repeats t i) 7 i ∷ [])
-    (given_most 8 5 i (names_no_node t i) (omega arith), (given_most 8 6 i (joins_itself t i) (omega arith), (given_most 8 7 i (repeats t i) (omega arith), tt)))
-
-links_most : (t : Table) (i k : ℕ) → (links_refusal t i k).number ≤ 8
-unfolding links_refusal
-links_most t i zero = omega arith
-links_most t i (suc k) = first_most 8 (link_refusal t i ∷ links_refusal t (suc i) k ∷ []) (link_most t i, (links_most t (suc i) k, tt))
-
-checks_most : (upload : List ℕ) → Most 8 (table_checks upload ++ (accepted ∷ accepted ∷ accepted ∷ []))
-unfolding table_checks
-checks_most upload =
-    let t = table_of upload in
-    (given_most 8 3 0 (ltb (length upload) 4) (omega arith), (given_most 8 4 0 (not (in_range (nodes_of upload) (links_of upload) (actions_of upload))) (omega arith), (given_most 8 3 0 (not (eqb (length upload) (exact_length upload))) (omega arith), (links_most t 0 (links_of upload), (given_most 8 8 0 (not (one_piece t)) (omega arith), (omega arith, (omega arith, (omega arith, tt))))))))
-
-pub table_most : (upload : List ℕ) → (table_refusal upload).number ≤ 8
-table_most upload =
-    rw (behind upload accepted accepted accepted) (first_most 8 (table_checks upload ++ (accepted ∷ accepted ∷ accepted ∷ [])) (checks_most upload))
 
 -- a refusal that is not of an action is answered as such
 pub answered_refused : (r : Refusal) (steps : ℕ) (t : Table) (s : State) → (r.number ≡ 0 → ⊥) → (9 ≤ r.number → 11 < r.number) → answered r steps t s ≡ refused_with r

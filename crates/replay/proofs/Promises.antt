@@ -13,7 +13,7 @@ use Rattle.paper.specs.Steps.{Step, children_known, add_child, acknowledge, reso
 use Rattle.paper.specs.Published.{Edge, Pre, queue, queues, action_of}
 use Rattle.paper.specs.Meanings.{SoundMarks}
 use Rattle.paper.proofs.Published.{as_published}
-use Rattle.counting.proofs.Booleans.{and_left, and_right, eqb_same}
+use Rattle.counting.proofs.Booleans.{and_left, and_right, eqb_same, beq_same}
 use Rattle.paper.proofs.Changes.{at_away, at_elim}
 use Rattle.replay.specs.Promises.{Possible, SameButDirection, Effect}
 
@@ -50,10 +50,6 @@ possible_plainly t s marks z =
 -- a value at its place, and elsewhere
 at_place {ℓ} : {A : Type ℓ} (f : ℕ → A) (x : ℕ) (a : A) → at f x a x ≡ a
 at_place f x a = rw (eqb_same x)
-
-beq_same : (b : Bool) → beq b b ≡ true
-beq_same true = refl
-beq_same false = refl
 
 at_one_direction : {A : Type 0} (f : ℕ → Bool → A) (i : ℕ) (b : Bool) (a : A) → at_direction f i b a i b ≡ a
 at_one_direction f i b a = rw (eqb_same i, beq_same b)

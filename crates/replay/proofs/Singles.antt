@@ -16,7 +16,7 @@ use Rattle.paper.specs.Image.{state_of, image_of, image_length, fits, sound}
 use Rattle.paper.specs.Actions.{Reading, names, reading, node_step, link_step, direction_from, refused_by, state_after}
 use Rattle.paper.specs.Refusals.{table_refusal}
 use Rattle.paper.specs.Calls.{fresh_image, step_state, step_answer, step_image, action_of, Replayed, replay_from, replayed, replay_answer}
-use Rattle.counting.proofs.Booleans.{and_both}
+use Rattle.std.proofs.lemmas.Bool.{and_from}
 use Rattle.paper.proofs.Images.{sound_marks}
 use Rattle.paper.proofs.Kept.{possible_taken}
 use Rattle.paper.proofs.Changes.{possible_in_table}
@@ -121,7 +121,7 @@ module _ (upload image : List ℕ) (h : (table_refusal upload).number ≡ 0) (g 
 -- an image that single steps can be taken on: lent and sound
 good_image : (upload image : List ℕ) {s : State} → Holds upload image s → (fits (table_of upload) image && sound (table_of upload) image) ≡ true
 good_image upload image w =
-    and_both (eq-eqb (length image) (image_length (table_of upload)) w.lent.fits) w.is_sound
+    and_from _ _ (eq-eqb (length image) (image_length (table_of upload)) w.lent.fits) w.is_sound
 
 -- what the actions from i on come to, as single steps
 record Part (upload begin : List ℕ) (i k : ℕ) (w : Replayed) : Type 0 where

@@ -94,7 +94,7 @@ pub fn report(upload: &[u8], image: &[u8]) -> Answer
     answered(try_report(upload, image))
 }
 
-// The most bytes that a list has: 6 for a node, 12 for a link.
+// The most bytes that a list has: 6 for a node, 12 for a link. Like the longest run and an image's length a sum over nodes and links, each with a law of its own.
 fn most_listed(cabling: &Cabling) -> usize
     ensures { result ≡ 6 * (cables cabling.now).nodes + 12 * (cables cabling.now).links }
 {
@@ -151,6 +151,7 @@ pub fn fresh(upload: &[u8], image: &mut [u8]) -> Answer
 }
 
 // What an action comes to, by its kind: the step that it names, where that is possible. In line, as `act` is.
+// Kind, x and y stay three numbers here and below: the clauses of the calls take them apart, and only here do they become a step.
 #[inline(always)]
 fn tried(view: &View, kind: u8, x: u8, y: u8) -> Result<Step, Refused>
     ensures { TriedAs (table view.now) (shown view.now) (reading (table view.now) kind x y) result }
@@ -177,13 +178,7 @@ fn act(cabling: &Cabling, image: &mut [u8], kind: u8, x: u8, y: u8) -> Result<()
     Ok(())
 }
 
-fn try_step(
-    upload: &[u8],
-    image: &mut [u8],
-    kind: u8,
-    x: u8,
-    y: u8,
-) -> Result<Answer, Refusal>
+fn try_step(upload: &[u8], image: &mut [u8], kind: u8, x: u8, y: u8) -> Result<Answer, Refusal>
     ensures value { answer_of result ≡ step_answer upload.now image.old kind x y }
     ensures image_after { image.new ≡ step_image upload.now image.old kind x y }
 {
@@ -218,6 +213,7 @@ fn act_at(cabling: &Cabling, image: &mut [u8], i: usize) -> Result<(), Refused>
     requires there { i < actions_of cabling.now.upload.bytes.now }
     ensures { Taken cabling.now.upload.bytes.now image.old (byte_at cabling.now.upload.bytes.now (action_at cabling.now.upload.bytes.now i)) (byte_at cabling.now.upload.bytes.now (action_at cabling.now.upload.bytes.now i + 1)) (byte_at cabling.now.upload.bytes.now (action_at cabling.now.upload.bytes.now i + 2)) (number_of result) image.new }
 {
+    // Three bytes by their places: a pattern would test the length, which is known.
     let bytes = cabling.upload.bytes;
     let at = 4 + 2 * cabling.links() + 3 * i;
     act(cabling, image, bytes[at], bytes[at + 1], bytes[at + 2])
@@ -237,6 +233,7 @@ fn replay_into(cabling: &Cabling, image: &mut [u8]) -> Result<u16, Stopped>
             });
         }
     }
+    // Numbers below 65,536 are cast: std has no `From` to a narrower type, and `TryFrom` would add a branch that no input takes.
     Ok(a as u16)
 }
 
@@ -253,7 +250,12 @@ fn replay_on(cabling: &Cabling, image: &mut [u8]) -> Answer
     };
     match replayed {
         Ok(steps) => reporting(&view, 0, 0, steps),
-        Err(stopped) => reporting(&view, u8::from(stopped.refused), stopped.place, stopped.place),
+        Err(stopped) => reporting(
+            &view,
+            u8::from(stopped.refused),
+            stopped.place,
+            stopped.place,
+        ),
     }
 }
 
@@ -273,7 +275,7 @@ pub fn replay(upload: &[u8]) -> Answer
     answered(try_replay(upload))
 }
 
-// Takes the first listed step, if there is one.
+// Takes the first listed step, if there is one; `Advanced` speaks of whether one was taken.
 fn take_first(cabling: &Cabling, image: &mut [u8]) -> bool
     requires { SoundImage (cables cabling.now) image.old }
     ensures { Advanced cabling.now.upload.bytes.now image.old result image.new }

@@ -12,12 +12,12 @@ ghost use Rattle.replay_c.specs.Word.{Carries};
 pub fn word(a: paper::Answer) -> u64
     ensures { Carries result a }
 {
-    72057594037927936 * (a.refusal as u64)
-        + 1099511627776 * (a.place as u64)
-        + 16777216 * (a.steps as u64)
-        + 65536 * (a.outcome as u64)
-        + 256 * (a.root as u64)
-        + (a.waiting as u64)
+    72057594037927936 * u64::from(a.refusal)
+        + 1099511627776 * u64::from(a.place)
+        + 16777216 * u64::from(a.steps)
+        + 65536 * u64::from(a.outcome)
+        + 256 * u64::from(a.root)
+        + u64::from(a.waiting)
 }
 
 // Fresh: makes the fresh image.

@@ -75,7 +75,7 @@ fn read_upload<'a>(
 {
     let path = std::str::from_utf8(name).map_err(|_| Unanswered::Unopened)?;
     let mut file = File::open(rt, path).map_err(|_| Unanswered::Unopened)?;
-    let n = cases::filled(&mut file, buffer).map_err(|_| Unanswered::Unread)?;
+    let n = cases::read_up_to(&mut file, buffer).map_err(|_| Unanswered::Unread)?;
     let upload = &buffer[..n];
     if saved::too_long(upload) {
         return Err(Unanswered::TooLong);
@@ -117,7 +117,7 @@ impl Room {
         Ok(upload.is_ok())
     }
 
-    // Says how many files are done. A write that fails is passed over.
+    // Says how many files are done. A write that fails is passed over. By `as`, here and below: std has no `From` of usize for u64.
     fn print_progress(&mut self, err: &impl Print, done: usize) {
         let n = saved::progress_line(done as u64, &mut self.line);
         let _ = write_line(err, &self.line, n);

@@ -4,11 +4,9 @@
 
 ghost use Rattle.std.specs.Prelude.{◌≡◌, length, take, ◌<◌, ◌≤◌};
 ghost use Rattle.saved.specs.Placed.{Placed, Joins, text_of};
-ghost use Rattle.saved.specs.Saved.{too_long, answer_line, unopened_line, unread_line, too_long_line, progress_line, totals_line};
-ghost use Rattle.paper.specs.Lines.{line_of};
+ghost use Rattle.saved.specs.Saved.{numbers, too_long, answer_line, unopened_line, unread_line, too_long_line, progress_line, totals_line};
 
 use paper::Answer;
-use std::slice;
 
 // Some texts, one behind another, where there is room for all of them: how many bytes they are.
 // Their lengths are taken off the room in turn, and not summed: nothing promises that the sum fits its type.
@@ -31,7 +29,7 @@ fn joined(texts: &[&[u8]], out: &mut [u8]) -> Option<usize>
     Some(at)
 }
 
-// Some texts, one behind another.
+// Some texts, one behind another: 0 where there is no room, as `Placed` says of every line.
 fn line(texts: &[&[u8]], out: &mut [u8]) -> usize
     ensures { Placed (text_of texts.now) out.old out.new result }
 {
@@ -45,7 +43,7 @@ pub fn too_long(bytes: &[u8]) -> bool
     3328 < bytes.len()
 }
 
-// The line of a file that cannot be opened.
+// The line of a file that cannot be opened. This one and the next two differ only in their text, and each is a call of its own for the program.
 pub fn unopened_line(name: &[u8], out: &mut [u8]) -> usize
     ensures { Placed (unopened_line name.now) out.old out.new result }
 {
@@ -66,11 +64,13 @@ pub fn too_long_line(name: &[u8], out: &mut [u8]) -> usize
     line(&[name, b": longer than any upload\n"], out)
 }
 
-// An answer's line as that of entry 0, in an array.
-fn entry(answer: &Answer, out: &mut [u8; 64]) -> usize
-    ensures { (take result out.new ≡ line_of 0 answer.now) × (0 < result) × (result ≤ 64) }
+// The six numbers of an answer, a space before each and a newline behind: its line as that of entry 0, but for the first byte.
+fn six_numbers(answer: Answer, buffer: &mut [u8; 64]) -> &[u8]
+    ensures { result.now ≡ numbers answer }
 {
-    lines::write(slice::from_ref(answer), out).steps as usize
+    // By `as`: with `from` the place would have a second name in each proof.
+    let n = lines::write(&[answer], buffer).steps as usize;
+    &buffer[1..n]
 }
 
 // The line of a file that holds an upload.
@@ -78,9 +78,7 @@ pub fn answer_line(name: &[u8], upload: &[u8], out: &mut [u8]) -> usize
     ensures { Placed (answer_line name.now upload.now) out.old out.new result }
 {
     let answer = replay::replay(upload);
-    let mut text = [0; 64];
-    let n = entry(&answer, &mut text);
-    line(&[name, &text[1..n]], out)
+    line(&[name, six_numbers(answer, &mut [0; 64])], out)
 }
 
 // How far it has come: a number of files.

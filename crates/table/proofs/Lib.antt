@@ -2,6 +2,7 @@ pub mod Labels
 pub mod Tells
 pub mod OneLink
 pub mod Order
+pub mod Most
 pub mod Answers
 pub mod ExactlyWhen
 pub mod Laws

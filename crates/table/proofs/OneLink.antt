@@ -1,30 +1,16 @@
 -- One link tried for 5, 6 and 7: its refusal in plain terms.
-use Prim.Native.Nat.{ℕ, ◌<◌}
+use Prim.Native.Nat.{ℕ, ◌≤◌, ◌<◌}
 use mathlib.Core.Bool.{Bool, true, false}
 use mathlib.Core.Path.{◌≡◌, refl}
-use mathlib.Core.List.{[], ◌∷◌}
 use native.Mathlib.Decide.{dec_lt}
 use native.Mathlib.Omega.{arith}
 use borrow.Author.Tests.{eqb-false}
 use Rattle.paper.specs.Table.{Table}
-use Rattle.paper.specs.Refusals.{Refusal, given, first, names_no_node, joins_itself, repeats, link_refusal}
+use Rattle.paper.specs.Refusals.{names_no_node, joins_itself, repeats, link_refusal}
 use Rattle.table.specs.ExactlyWhen.{NamesNoNode, JoinsItself, Repeats, LinkPasses}
 use Rattle.table.proofs.Tells.{holds, fails, decided, tells_names, tells_itself, tells_repeats}
 
--- the three tests of a link in their order
-abbrev tried : Bool → Bool → Bool → ℕ → Refusal
-tried names itself again i = first (given names 5 i ∷ given itself 6 i ∷ given again 7 i ∷ [])
-
-tried_place : (a b c : Bool) (i : ℕ) → ((tried a b c i).number ≡ 0 → ⊥) → (tried a b c i).place ≡ i
-tried_place true b c i h = refl
-tried_place false true c i h = refl
-tried_place false false true i h = refl
-tried_place false false false i h = absurd (h refl)
-
 module _ (t : Table) (i : ℕ) where
-  pub link_place : ((link_refusal t i).number ≡ 0 → ⊥) → (link_refusal t i).place ≡ i
-  link_place = tried_place (names_no_node t i) (joins_itself t i) (repeats t i) i
-
   pub link_names : NamesNoNode t i → link_refusal t i ≡ record { number = 5; place = i }
   link_names p = rw (holds (names_no_node t i) (tells_names t i) p)
 
@@ -39,6 +25,14 @@ module _ (t : Table) (i : ℕ) where
         fails (joins_itself t i) (tells_itself t i) s,
         holds (repeats t i) (tells_repeats t i) p,
       )
+
+  -- where both ends are nodes
+  pub names_none : t.end i false < t.nodes → t.end i true < t.nodes → NamesNoNode t i → ⊥
+  names_none p q w = go w.0 w.1
+    where
+      go : (b : Bool) → t.nodes ≤ t.end i b → ⊥
+      go false h = omega arith
+      go true h = omega arith
 
   pub link_passes : LinkPasses t i → (link_refusal t i).number ≡ 0
   link_passes p =

@@ -1,4 +1,5 @@
 pub mod Checked
+pub mod Exact
 pub mod Told
 pub mod Labels
 pub mod ExactlyWhen

@@ -2,10 +2,9 @@
 
 #![tactic(auto)]
 
-ghost use Rattle.std.specs.Prelude.{◌≡◌, cond, ◌+◌, ◌<◌, ◌≤◌, length, get_or, eqb, true, false, IfOk, IfErr, MatchResult};
+ghost use Rattle.std.specs.Prelude.{◌≡◌, ◌<◌, ◌≤◌, length, get_or, eqb, true, IfOk, IfErr};
 ghost use Rattle.counting.specs.Count.{all};
-ghost use Rattle.paper.specs.Upload.{nodes_of, links_of, link_at};
-ghost use Rattle.paper.specs.Table.{table_of, one_piece};
+ghost use Rattle.paper.specs.Table.{one_piece};
 ghost use Rattle.paper.specs.Refusals.{in_range, repeats, link_refusal, table_refusal};
 ghost use Rattle.table.specs.Checked.{HeaderPasses};
 ghost use Rattle.table.specs.ExactlyWhen.{LinksPass};
@@ -19,14 +18,14 @@ mod refusal;
 
 pub use refusal::Refusal;
 
-// n, m and a are in range.
+// n, m and a are in range: the bounds stand as document 01 has them, one beside another.
 fn in_range(n: usize, m: usize, a: usize) -> bool
     ensures { result ≡ in_range n m a }
 {
     ((1 <= n) & (n <= 63)) & ((m <= 126) & (a <= 1024))
 }
 
-// Every node has its own number as label.
+// Every node has its own number as label. Numbers below 64 or 127 are cast to bytes here and below: std has no `From` to a narrower type.
 fn number_nodes(labels: &mut [u8])
     requires { length labels.old ≤ 63 }
     ensures { Rewritten own_number labels.old labels.new }
@@ -62,6 +61,8 @@ struct Exact<'a> {
 }
 
 impl<'a> Exact<'a> {
+    ghost use Rattle.table.specs.Exact.{table};
+
     // Checks 3 and 4: the length and the numbers.
     fn read(upload: &'a [u8]) -> Result<Exact<'a>, Refusal>
         ensures same { IfOk result (λ e. e.upload.bytes ≡ upload.entry) }
@@ -82,10 +83,10 @@ impl<'a> Exact<'a> {
         Ok(Exact { upload })
     }
 
-    // Link i repeats an earlier one.
+    // Link i repeats an earlier one. With no early exit the loop is done in vectors: with `any` it takes up to a fifth longer.
     fn repeats(&self, i: usize) -> bool
-        requires { i < links_of self.now.upload.bytes.now }
-        ensures { result ≡ repeats (table_of self.now.upload.bytes.now) i }
+        requires { i < (table self.now).links }
+        ensures { result ≡ repeats (table self.now) i }
     {
         let x = self.upload.end(i, false);
         let y = self.upload.end(i, true);
@@ -98,14 +99,14 @@ impl<'a> Exact<'a> {
 
     // Checks 5, 6 and 7 of link i.
     fn check_link(&self, i: usize) -> Result<(), Refusal>
-        requires { i < links_of self.now.upload.bytes.now }
-        ensures { told result ≡ link_refusal (table_of self.now.upload.bytes.now) i }
+        requires { i < (table self.now).links }
+        ensures { told result ≡ link_refusal (table self.now) i }
     {
         let n = self.upload.nodes();
         let p = self.upload.end(i, false);
         let q = self.upload.end(i, true);
         let link = i as u8;
-        if !((p < n) & (q < n)) {
+        if p >= n || q >= n {
             return Err(Refusal::NamesNoNode(link));
         }
         if p == q {
@@ -119,7 +120,8 @@ impl<'a> Exact<'a> {
 
     // Checks 5 to 7, of each link in turn.
     fn check_links(&self) -> Result<(), Refusal>
-        ensures { MatchResult result (λ _. LinksPass (table_of self.now.upload.bytes.now) (links_of self.now.upload.bytes.now)) (λ r. meant r ≡ table_refusal self.now.upload.bytes.now) }
+        ensures passed { IfOk result (λ _. LinksPass (table self.now) (table self.now).links) }
+        ensures refused { IfErr result (λ r. meant r ≡ table_refusal self.now.upload.bytes.now) }
     {
         for i in 0..self.upload.links() {
             self.check_link(i)?;
@@ -129,8 +131,8 @@ impl<'a> Exact<'a> {
 
     // All nodes that have the label of link i's second node get the label of its first.
     fn join_link(&self, labels: &mut [u8], i: usize)
-        requires { (i < links_of self.now.upload.bytes.now) × EndsWithin (table_of self.now.upload.bytes.now) i (length labels.old) }
-        ensures { Rewritten (joined_by (table_of self.now.upload.bytes.now) i labels.old) labels.old labels.new }
+        requires { (i < (table self.now).links) × EndsWithin (table self.now) i (length labels.old) }
+        ensures { Rewritten (joined_by (table self.now) i labels.old) labels.old labels.new }
     {
         let first = labels[self.upload.end(i, false)];
         let second = labels[self.upload.end(i, true)];
@@ -139,8 +141,8 @@ impl<'a> Exact<'a> {
 
     // All links in turn join their nodes' labels.
     fn join_links(&self, labels: &mut [u8])
-        requires { LinksPass (table_of self.now.upload.bytes.now) (links_of self.now.upload.bytes.now) × Labelled (table_of self.now.upload.bytes.now) 0 labels.old }
-        ensures { Labelled (table_of self.now.upload.bytes.now) (links_of self.now.upload.bytes.now) labels.new }
+        requires { LinksPass (table self.now) (table self.now).links × Labelled (table self.now) 0 labels.old }
+        ensures { Labelled (table self.now) (table self.now).links labels.new }
     {
         for i in 0..self.upload.links() {
             self.join_link(labels, i);
@@ -149,8 +151,9 @@ impl<'a> Exact<'a> {
 
     // Check 8, by a label for each node: those of one piece are the same.
     fn check_piece(&self) -> Result<(), Refusal>
-        requires { LinksPass (table_of self.now.upload.bytes.now) (links_of self.now.upload.bytes.now) }
-        ensures { MatchResult result (λ _. one_piece (table_of self.now.upload.bytes.now) ≡ true) (λ r. meant r ≡ table_refusal self.now.upload.bytes.now) }
+        requires { LinksPass (table self.now) (table self.now).links }
+        ensures passed { IfOk result (λ _. one_piece (table self.now) ≡ true) }
+        ensures refused { IfErr result (λ r. meant r ≡ table_refusal self.now.upload.bytes.now) }
     {
         let mut labels = [0u8; 63];
         let labels = &mut labels[..self.upload.nodes()];

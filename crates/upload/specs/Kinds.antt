@@ -1,5 +1,5 @@
 -- The steps and their kinds by the numbers and the words of document 01.
-use Rattle.std.specs.Prelude.{ℕ, ◌≡◌, ◌<◌, ◌⊎◌, Result, MatchResult}
+use Rattle.std.specs.Prelude.{ℕ, ◌≡◌, ◌<◌, ◌⊎◌, cond, eqb, Result, MatchResult}
 use Rattle.paper.specs.Actions.{node_step, link_step}
 use Rattle.paper.specs.Steps
 use Rattle.upload.specs.declared.step.NodeKind.{NodeKind}
@@ -22,6 +22,14 @@ abbrev pub link_number : LinkKind → ℕ
 link_number AddChild = 2
 link_number Acknowledge = 3
 link_number Resolve = 4
+
+-- a number is read as a kind at a node: 1 as children known, every other as becoming root
+abbrev pub NodeReads : ℕ → NodeKind → Type 0
+NodeReads n k = node_number k ≡ cond (eqb n 1) 1 5
+
+-- a number is read as a kind on a direction: 2 as adding a child, 3 as acknowledging, every other as resolving
+abbrev pub LinkReads : ℕ → LinkKind → Type 0
+LinkReads n k = link_number k ≡ cond (eqb n 2) 2 (cond (eqb n 3) 3 4)
 
 -- the number of a kind
 abbrev pub number : Kind → ℕ

@@ -45,6 +45,7 @@ pub struct Upload<'a> {
 }
 
 impl Upload<'_> {
+    // n, m and a stand in the header with a name each, and have an accessor each.
     // n, the number of nodes.
     pub fn nodes(&self) -> usize
         ensures { (result ≡ nodes_of self.now.bytes.now) × (result < 256) }
@@ -59,7 +60,7 @@ impl Upload<'_> {
         byte(self.bytes, 1)
     }
 
-    // a, the number of actions.
+    // a, the number of actions. Two bytes by hand: `two_at` of the definitions says the same sum, and with `from_be_bytes` it would be no plainer.
     pub fn actions(&self) -> usize
         ensures { (result ≡ actions_of self.now.bytes.now) × (result < 65536) }
     {
@@ -74,7 +75,7 @@ impl Upload<'_> {
         byte(self.bytes, 4 + 2 * i + usize::from(second))
     }
 
-    // Link i joins x and y, either way round: its two bytes as one number are theirs.
+    // Link i joins x and y, either way round: its two bytes as one number are theirs, which is measured faster than two pairs of comparisons.
     pub fn joins(&self, x: usize, y: usize, i: usize) -> bool
         requires { (link_at i + 2 ≤ length self.now.bytes.now) × (x < 256) × (y < 256) }
         ensures { result ≡ joins (table_of self.now.bytes.now) x y i }

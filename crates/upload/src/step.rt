@@ -33,6 +33,35 @@ pub enum Step {
     Link(LinkKind, Direction),
 }
 
+// A number read as a kind at a node: 1 is children known, every other becomes root.
+impl From<usize> for NodeKind {
+    ghost use Rattle.upload.specs.Kinds.{NodeReads};
+
+    ghost from_gives = { NodeReads };
+
+    fn from(number: usize) -> NodeKind {
+        match number {
+            1 => NodeKind::ChildrenKnown,
+            _ => NodeKind::BecomeRoot,
+        }
+    }
+}
+
+// A number read as a kind on a direction: 2 adds a child, 3 acknowledges, every other resolves.
+impl From<usize> for LinkKind {
+    ghost use Rattle.upload.specs.Kinds.{LinkReads};
+
+    ghost from_gives = { LinkReads };
+
+    fn from(number: usize) -> LinkKind {
+        match number {
+            2 => LinkKind::AddChild,
+            3 => LinkKind::Acknowledge,
+            _ => LinkKind::Resolve,
+        }
+    }
+}
+
 // A number that is no kind's.
 #[derive(Clone, Copy, PartialEq, Eq)]
 pub struct NoKind(pub u8);
@@ -46,11 +75,8 @@ impl TryFrom<u8> for Kind {
 
     fn try_from(number: u8) -> Result<Kind, NoKind> {
         match number {
-            1 => Ok(Kind::Node(NodeKind::ChildrenKnown)),
-            2 => Ok(Kind::Link(LinkKind::AddChild)),
-            3 => Ok(Kind::Link(LinkKind::Acknowledge)),
-            4 => Ok(Kind::Link(LinkKind::Resolve)),
-            5 => Ok(Kind::Node(NodeKind::BecomeRoot)),
+            1 | 5 => Ok(Kind::Node(NodeKind::from(usize::from(number)))),
+            2..=4 => Ok(Kind::Link(LinkKind::from(usize::from(number)))),
             _ => Err(NoKind(number)),
         }
     }

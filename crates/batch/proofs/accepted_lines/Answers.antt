@@ -1,10 +1,6 @@
-use Rattle.std.proofs.Common.{sym}
 use Rattle.std.proofs.lemmas.List.{length-take-le}
 use Rattle.batch.proofs.Text.{all_shown}
 use Rattle.batch.proofs.accepted_lines.Goals as goal
-
-pub slice_bounds-entry_lines-end : goal.slice_bounds-entry_lines-end
-slice_bounds-entry_lines-end c = sym (length-take-le c.args.entries _ c.requires)
 
 pub returns : goal.returns
 returns c =

@@ -1,15 +1,9 @@
 use native.Mathlib.Omega.{arith}
 use native.Mathlib.Nat.{add-sub_cancel_left}
 use borrow.Author.Tests.{le-leb, lt-leb}
-use Rattle.std.proofs.lemmas.Result.{err_from_is_err_and}
 use Rattle.paper.specs.Batch.{count_of, span_outside}
 use Rattle.batch.proofs.Tests.{header_right}
 use Rattle.batch.proofs.part.Goals as goal
-
-pub returns-in_err-entries : goal.returns-in_err-entries
-returns-in_err-entries c =
-    let error = err_from_is_err_and c.from_residual.result c.from_residual.ensures.1 in
-    rw (error.1, error.2, c.in_err-entries.ensures.0) c.in_err-entries.ensures.1
 
 pub returns-then-entries-number : goal.returns-then-entries-number
 unfolding span_outside

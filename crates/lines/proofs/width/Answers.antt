@@ -3,4 +3,4 @@ use Rattle.lines.proofs.Decimal.{decimal_width, digits_most}
 use Rattle.lines.proofs.width.Goals as goal
 
 pub returns : goal.returns
-returns c = omega (arith, decimal_width c.args.k c.requires, digits_most 4 c.args.k)
+returns c = omega (arith, decimal_width c.args.k (omega (arith, c.ranges.k.fits)), digits_most 4 c.args.k)

@@ -77,8 +77,8 @@ returns-in-Err-clause-value c =
     let test = good_is k cabled.same _ a.image.now c.in_ok-sound_view.ensures.sound in
     c.reporting-in-Err.ensures
     ∙ (λ j.
-      let t = table_of (bytes_are k cabled.same j) in
-      reported (record { number = c.from.ensures j; place = 0 }) (uncounted r j) t (state_of t c.act-taken.new.image))
+    let t = table_of (bytes_are k cabled.same j) in
+    reported (record { number = c.from.ensures j; place = 0 }) (uncounted r j) t (state_of t c.act-taken.new.image))
     ∙ step_done a.upload.now a.image.now a.kind a.x a.y (table_good a.upload.now cabled.told) test (refused_number r) c.act-taken.new.image (taken k cabled.same c.in-Err.ensures)
 
 pub returns-in-Err-clause-image_after : goal.returns-in-Err-clause-image_after

@@ -8,5 +8,5 @@ use Rattle.table.proofs.all_same.Goals as goal
 pub returns : goal.returns
 returns c =
     let labels = c.args.labels.now in
-    all_from_yields_List (λ x. eqb x (get_or labels 0 0)) _ _ c.all.result c.all.ensures.ran (YieldsList-from_slice labels (search rules)) (λ x b q k. search (rules, tests))
+    all_from_yields_List (λ x. eqb x (get_or labels 0 0)) _ _ c.all.result c.all.ensures.ran (YieldsList-from_slice labels c.iter.ensures.rest) (λ x b q k. search (rules, tests))
     ∙ list_all_is_all 0 labels _

@@ -7,5 +7,5 @@ use Rattle.lines.proofs.Text.decimal.Goals as goal
 
 pub returns : goal.returns
 returns c =
-    let whole : Writes c.args.self.now (decimal c.args.k) c.push.new.self = rw (digits_reached 4 c.args.k c.requires.1) (then (then (then (then c.digit.ensures c.digit-2.ensures) c.digit-3.ensures) c.digit-4.ensures) c.push.ensures) in
+    let whole : Writes c.args.self.now (decimal c.args.k) c.push.new.self = rw (digits_reached 4 c.args.k (omega (arith, c.ranges.k.fits))) (then (then (then (then c.digit.ensures c.digit-2.ensures) c.digit-3.ensures) c.digit-4.ensures) c.push.ensures) in
     (whole, omega (arith, whole.place, digits_most 4 c.args.k))

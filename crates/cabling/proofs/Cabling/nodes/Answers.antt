@@ -1,0 +1,6 @@
+-- `nodes` meets its contract: the number is the upload's.
+use Rattle.std.proofs.Common.{rules}
+use Rattle.cabling.proofs.Cabling.nodes.Goals as goal
+
+pub returns : goal.returns
+returns c = (c.nodes.ensures.0, search rules)
