@@ -10,7 +10,7 @@ use std::io::Read;
 use std::{fmt, io};
 
 // Reads until the input ends or the buffer is full, and answers how many bytes came to the buffer's start. Where a read fails, so does this.
-pub fn read_up_to<R: Read>(input: &mut R, buffer: &mut [u8]) -> io::Result<usize>
+pub fn filled<R: Read>(input: &mut R, buffer: &mut [u8]) -> io::Result<usize>
     ensures bound { IfOk result (λ n. n ≤ length buffer.new) }
     ensures bytes { IfOk result (λ n. Consumes (R.remaining input.old) (R.remaining input.new) (take n buffer.new)) }
     ensures end { IfOk result (λ n. n < length buffer.new → IsAtEnd (R.remaining input.new)) }

@@ -1,12 +1,11 @@
 -- What a chain over 0, 1, .., n - 1 gives, by the words of this crate.
-use Rattle.std.proofs.Common.{ℕ, zero, suc, ◌+◌, ◌<◌, Bool, true, false, cond, ◌&&◌, ◌||◌, List, [], ◌∷◌, ◌++◌, length, length-append, get_or, map, filter, find, sum_by, Option, None, Some, MatchOption, unwrap_or, ◌≡◌, refl, sym, ap, ◌∙◌, subst, arith}
+use Rattle.std.proofs.Common.{ℕ, zero, suc, ◌+◌, ◌<◌, Bool, true, false, cond, ◌&&◌, ◌||◌, List, [], ◌∷◌, ◌++◌, length, get_or, map, find, sum_by, Option, None, Some, MatchOption, ◌≡◌, refl, sym, ap, ◌∙◌, subst, arith}
 use Rattle.std.specs.List.{list_any, list_all, range_with_len}
 use Rattle.std.specs.Option.{option_or}
 use Rattle.std.proofs.lemmas.List.Folds.{list_any-append, list_all-append, list_all-map, find-append}
-use Rattle.std.proofs.lemmas.List.Elements.{filter-append}
 use Rattle.std.proofs.lemmas.List.FromFn.{fill_by_all}
 use Rattle.std.proofs.lemmas.List.Sums.{sum_by_push}
-use Rattle.counting.specs.Count.{all, some, least, sum, count, bit}
+use Rattle.counting.specs.Count.{all, some, sum}
 
 -- one number more, behind
 range_more : (n a : ℕ) → range_with_len a (suc n) ≡ range_with_len a n ++ (a + n) ∷ []
@@ -47,36 +46,6 @@ module _ (p : ℕ → Bool) where
       ∙ list_all-append p (range_with_len 0 n) (n ∷ [])
       ∙ ap (λ w. list_all p (range_with_len 0 n) && w) (and_true (p n))
       ∙ ap (λ w. w && p n) (all_is_all n)
-
-  one_kept : (b : Bool) (i : ℕ) → length (cond b (i ∷ []) []) ≡ bit b
-  one_kept true i = refl
-  one_kept false i = refl
-
-  -- of `filter` and then `count`
-  pub filter_is_count : (n : ℕ) → length (filter p (range_with_len 0 n)) ≡ count n p
-  unfolding sum
-  filter_is_count zero = refl
-  filter_is_count (suc n) =
-      ap (λ l. length (filter p l)) (range_suc n)
-      ∙ ap length (filter-append p (range_with_len 0 n) (n ∷ []))
-      ∙ length-append (filter p (range_with_len 0 n)) (filter p (n ∷ []))
-      ∙ ap (λ k. length (filter p (range_with_len 0 n)) + k) (one_kept (p n) n)
-      ∙ ap (λ k. k + bit (p n)) (filter_is_count n)
-
-  or_else : (o : Option ℕ) (b : Bool) (n d : ℕ) → unwrap_or (option_or o (cond b (Some n) None)) d ≡ unwrap_or o (cond b n d)
-  or_else (Some i) b n d = refl
-  or_else None true n d = refl
-  or_else None false n d = refl
-
-  -- of `find` and then `unwrap_or`
-  pub find_is_least : (n d : ℕ) → unwrap_or (find p (range_with_len 0 n)) d ≡ least n p d
-  unfolding least
-  find_is_least zero d = refl
-  find_is_least (suc n) d =
-      ap (λ l. unwrap_or (find p l) d) (range_suc n)
-      ∙ ap (λ o. unwrap_or o d) (find-append p (range_with_len 0 n) (n ∷ []))
-      ∙ or_else (find p (range_with_len 0 n)) (p n) n d
-      ∙ find_is_least n (cond (p n) n d)
 
   -- what `find` gives: a number that passes, and none before it does, or nothing where none passes
   abbrev pub FirstBelow : ℕ → Option ℕ → Type 0

@@ -13,6 +13,7 @@ use Rattle.listing.specs.declared.Writer.{Writer}
 use Rattle.listing.specs.Wrote.{Wrote}
 use Rattle.listing.specs.Appends.{Appends}
 
+-- of `lines` and `listing` neither rests on the other, and std has no law of `sets` behind another: it stands in both
 sets_append : (l k o : List ℕ) (at : ℕ) → sets o at (l ++ k) ≡ sets (sets o at l) (at + length l) k
 sets_append [] k o at = rw add-zero
 sets_append (a ∷ l) k o at =

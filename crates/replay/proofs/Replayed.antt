@@ -60,6 +60,7 @@ module _ (upload : List ℕ) where
       ∙ answered_action w.refusal w.steps (table_of upload) w.state (proper upload).number
 
 -- the first k bytes of a list of k or more
+-- the other way round than std's `length-take-le`, as `taken_blank` asks for it
 pub taken_length : (k : ℕ) (l : List ℕ) → k ≤ length l → k ≡ length (take k l)
 taken_length k l h = simp length-take (omega arith)
 

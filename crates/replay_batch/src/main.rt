@@ -27,7 +27,7 @@ impl fmt::Display for Fault {
 // Reads a batch, or one byte more than any batch has, and prints its lines. At most 64 lines of 25 bytes come of it.
 fn answer(input: &mut impl Read, out: &impl Print) -> Result<(), Fault> {
     let mut buffer = [0u8; 65537];
-    let n = cases::read_up_to(input, &mut buffer).map_err(|_| Fault::Unread)?;
+    let n = cases::filled(input, &mut buffer).map_err(|_| Fault::Unread)?;
     let mut text = [0u8; 1600];
     let answer = batch::lines(&buffer[..n], &mut text);
     // `batch::lines` answers the six numbers of document 01.

@@ -30,6 +30,7 @@ pub carried : {w : ℕ} {a : Answer} → Carries w a → unpacked w ≡ a
 carried {w} {a} h = ap unpacked h.word ∙ unpacked_packed a h.fits
 
 -- a word that carries an answer carries an equal one
+-- docs/PORT.md names it
 pub carries_as : {w : ℕ} {a b : Answer} → Carries w a → a ≡ b → Carries w b
 carries_as {w} h e = subst (Carries w) e h
 

@@ -75,7 +75,7 @@ fn read_upload<'a>(
 {
     let path = std::str::from_utf8(name).map_err(|_| Unanswered::Unopened)?;
     let mut file = File::open(rt, path).map_err(|_| Unanswered::Unopened)?;
-    let n = cases::read_up_to(&mut file, buffer).map_err(|_| Unanswered::Unread)?;
+    let n = cases::filled(&mut file, buffer).map_err(|_| Unanswered::Unread)?;
     let upload = &buffer[..n];
     if saved::too_long(upload) {
         return Err(Unanswered::TooLong);

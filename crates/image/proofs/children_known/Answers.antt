@@ -8,6 +8,7 @@ use Rattle.image.proofs.Sent.{sent_more}
 use Rattle.image.proofs.Effects.{stopped_made}
 use Rattle.image.proofs.children_known.Goals as goal
 
+-- The check finds this alone; with it the edit image/one_message_too_few falls where two terms differ.
 pub loop-link-init : goal.loop-link-init
 loop-link-init c =
     stopped_made _ (accepted c.args.cabling.now.passes).ends _ c.requires.image_is_sound c.args.x _ c.requires.node_in_table c.stopped_byte.ensures

@@ -4,6 +4,7 @@ use Rattle.replay.specs.Taken.{Taken}
 use Rattle.replay.specs.Refused.{number_of}
 use Rattle.replay.proofs.act_at.Goals as goal
 
+-- The check finds this alone; with it the edit replay/replay_reads_actions_of_two_bytes falls where two terms differ.
 pub returns : goal.returns
 returns c =
     let a = c.args in

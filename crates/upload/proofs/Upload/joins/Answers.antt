@@ -6,6 +6,7 @@ use lib.Dec.{eqb}
 use Rattle.counting.proofs.Pairs.{pair_eqb}
 use Rattle.upload.proofs.Upload.joins.Goals as goal
 
+-- The check finds this alone; with it the edit upload/joins_one_way_round falls where two terms differ.
 pub returns : goal.returns
 returns c =
     let first = c.end.ensures in

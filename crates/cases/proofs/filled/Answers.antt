@@ -2,7 +2,7 @@ use Rattle.std.proofs.Common.{rules, sym, subst, length, ◌-◌}
 use Rattle.std.specs.Io.KnownBytes.{Consumes}
 use Rattle.std.proofs.KnownBytes.{Consumes-trans}
 use Rattle.cases.proofs.Seam.{take-put_mid}
-use Rattle.cases.proofs.read_up_to.Goals as goal
+use Rattle.cases.proofs.filled.Goals as goal
 
 -- what has come, and then what one more read brings
 pub loop-done-preserved : goal.loop-done-preserved
