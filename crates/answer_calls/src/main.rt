@@ -40,7 +40,7 @@ impl Room {
     }
 }
 
-// The loop stands in each of the four programs: a function for it would read and write, and have no theorem.
+// The loop stands in each of the four programs: a function that takes what is repeated as a closure would share these four lines alone, and be no plainer.
 fn main(rt: HostRuntime) {
     let mut room = Room {
         upload: [0; 65535],

@@ -11,7 +11,7 @@ fn answer_one(input: &mut impl Read, out: &impl Print, batch: &mut [u8]) -> Opti
     Some(())
 }
 
-// The loop stands in each of the four programs: a function for it would read and write, and have no theorem.
+// The loop stands in each of the four programs: a function that takes what is repeated as a closure would share these four lines alone, and be no plainer.
 fn main(rt: HostRuntime) {
     let mut batch = [0u8; 131072];
     for _ in 0..u64::MAX {

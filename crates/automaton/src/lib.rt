@@ -17,7 +17,7 @@ use marks::View;
 use upload::Direction;
 use upload::step::{LinkKind, NodeKind, Step};
 
-// Link i is one of x's.
+// Link i is one of x's. Of both directions or ends of a link two functions speak, this one and `link_moves`: what they share is `|`.
 fn touches(cabling: &Cabling, x: usize, i: usize) -> bool
     requires { i < (cables cabling.now).links }
     ensures { result ≡ touching (cables cabling.now) x i }
@@ -212,6 +212,7 @@ fn link_moves(view: &View, i: usize) -> bool
 }
 
 // One chain over the nodes and one over the links: a common function would take the number and the test, and be `any` again.
+
 // Some step at a node is possible.
 fn some_node_moves(view: &View) -> bool
     ensures { result ≡ some (table view.now).nodes (moves_at (table view.now) (shown view.now)) }
@@ -234,7 +235,8 @@ fn is_moving(view: &View) -> bool
     some_node_moves(view) || some_link_moves(view)
 }
 
-// Two counts and no common one: their clauses name two fields of the state.
+// Two counts and no common one: their clauses name two fields of the state, and one that picks the field by a number would be no plainer.
+
 // How many nodes are root.
 fn root_count(view: &View) -> u8
     ensures { result ≡ roots (table view.now) (shown view.now) }

@@ -61,7 +61,7 @@ impl Cabling<'_> {
         }
     }
 
-    // n + 2m.
+    // n + 2m. Like `most_listed` and `longest_run` of `replay` a sum over nodes and links, each by its own law.
     pub fn image_length(&self) -> usize
         ensures { (result ≡ image_length (cables self.now)) × (result ≤ 315) }
     {

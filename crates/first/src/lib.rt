@@ -23,7 +23,7 @@ fn first_at_nodes(view: &View, kind: NodeKind) -> Option<Step>
         .map(|x| Step::Node(kind, x))
 }
 
-// The nodes of a direction as one number: its source, then its target; one comparison in place of two.
+// The nodes of a direction as one number, its source before its target: `pair` of the definitions is that number, and two numbers compared in turn would be no plainer.
 fn pair(view: &View, d: Direction) -> usize
     requires { d.link < (table view.now).links }
     ensures { result ≡ pair (table view.now) d.link d.back }

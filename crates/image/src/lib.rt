@@ -57,7 +57,7 @@ pub fn make_fresh(cabling: &Cabling, image: &mut [u8])
     directions.fill(0);
 }
 
-// Every node waits, without another mark; the bytes of the directions stay.
+// Every node waits, without another mark; the bytes of the directions stay, where `make_fresh` clears them: two functions, as their clauses are two.
 pub fn wake(cabling: &Cabling, image: &mut [u8])
     requires { length image.old ≡ image_length (cables cabling.now) }
     ensures { image.new ≡ filled image.old 0 (cables cabling.now).nodes 1 }
@@ -65,7 +65,8 @@ pub fn wake(cabling: &Cabling, image: &mut [u8])
     image[..cabling.nodes()].fill(1);
 }
 
-// Five bytes by five effects, each as its own definition says it.
+// Five bytes by five effects, each as its own definition says it: one of them all would take its constants as parameters, and be no plainer.
+
 // A node byte without waiting.
 fn stopped_byte(k: u8) -> u8
     ensures { result ≡ stopped_byte k }
@@ -114,6 +115,7 @@ fn sends(child: bool) -> Message
 
 // A cabling and a lent image stay two parameters: of a struct that held the image each function would have to say besides that it keeps the table and the buffer, and
 // the theorem of no second answer could not be stated of it as it is of a lent slice.
+
 // Kind 3: the target contends if the message was a request, else not; the message is removed.
 fn acknowledge(cabling: &Cabling, image: &mut [u8], d: Direction)
     requires image_is_sound { SoundImage (cables cabling.now) image.old }

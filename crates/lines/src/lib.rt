@@ -40,7 +40,7 @@ impl Text<'_> {
         }
     }
 
-    // A number in decimal. By itoa, whose digits lie in a buffer of their own, a text of 64 lines took a third longer;
+    // A number in decimal. By itoa, whose digits lie in a buffer of their own, a text of 64 lines took a third longer, past the bar of docs/SPEED.md;
     // `write!` promises its bytes only on Ok, and promises no Ok.
     fn decimal(&mut self, k: u16)
         requires { self.old.at < 2 ^ 31 }
@@ -89,7 +89,7 @@ fn put_lines(answers: &[Answer], out: &mut [u8])
     }
 }
 
-// How many digits a number has in decimal. A chain that counts the powers took twice as long.
+// How many digits a number has in decimal. A chain that counts the powers took twice as long, past the bar of docs/SPEED.md.
 fn width(k: u16) -> usize
     ensures { (result ≡ length (decimal k)) × (result ≤ 5) }
 {
@@ -99,7 +99,7 @@ fn width(k: u16) -> usize
         + usize::from(10000 <= k)
 }
 
-// How long a line is, by the numbers that `Text::line` writes: its seven numbers, six spaces and the newline.
+// How long a line is, by the numbers that `Text::line` writes: its seven numbers, six spaces and the newline. The width of a text is asked before a byte of it is written.
 fn line_width(number: u16, answer: Answer) -> usize
     ensures { (result ≡ length (line_of number answer)) × (result ≤ 42) }
 {

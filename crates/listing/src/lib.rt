@@ -19,7 +19,7 @@ use upload::Direction;
 use upload::step::{LinkKind, NodeKind};
 
 // The entries of a list, in a lent buffer as far as it has room, and how many they are: it counts entries of three bytes where the text of `lines` counts bytes, so
-// that one of the two over the other would carry a factor through every clause. Numbers below 64 or 128 are cast to bytes: std has no `From` to a narrower type.
+// that one of the two over the other would carry a factor through every clause. Numbers below 63 or 126 are cast to bytes below: std has no `From` to a narrower type.
 #[derive(Drop)]
 struct Writer<'a> {
     out: &'a mut [u8],
@@ -101,7 +101,7 @@ fn links_from(cabling: &Cabling, x: usize) -> [Option<u8>; 64]
     links
 }
 
-// A step from x is possible on a link, where there is one.
+// A step from x is possible on a link, where there is one. By a `match`: `is_some_and` promises what its closure does, and of a closure no proof here knows that.
 fn may_list(view: &View, kind: LinkKind, link: Option<u8>, x: usize) -> bool
     requires { ForSome link (λ i. i < (table view.now).links) }
     ensures { result ≡ may_list (table view.now) (shown view.now) (link_number kind) link x }
@@ -152,7 +152,7 @@ fn list_into(view: &View, out: &mut [u8]) -> usize
     writer.count
 }
 
-// How many steps the list has.
+// How many steps the list has. This and `list` are two calls, as their clauses are two, over one function.
 pub fn count_listed(view: &View) -> usize
     ensures { (length (listed (table view.now) (shown view.now)) ≡ 3 * result) × (result ≤ 19845) }
 {

@@ -22,6 +22,7 @@ impl View<'_> {
     ghost use Rattle.marks.specs.Shown.{table, byte_of, shown};
 
     // Three accessors and no common one: their clauses name three fields of the state, and one that picks the field by a number would be no plainer.
+
     // Node x waits.
     pub fn waiting(&self, x: usize) -> bool
         requires { x < (table self.now).nodes }

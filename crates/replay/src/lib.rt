@@ -64,7 +64,8 @@ fn sound_view<'a>(cabling: Cabling<'a>, image: &'a [u8]) -> Result<View<'a>, Ref
     Ok(view)
 }
 
-// The report of a view, behind a refusal, its place and the steps taken.
+// The report of a view, behind a refusal, its place and the steps taken. The refusal comes as its number, 0 for none, as the answer and `reported` have it:
+// an option would be made into that number here and in each clause.
 fn reporting(view: &View, number: u8, place: u16, steps: u16) -> Answer
     ensures { result ≡ reported (record { number = number; place = place }) steps (table view.now) (shown view.now) }
 {
@@ -79,6 +80,7 @@ fn reporting(view: &View, number: u8, place: u16, steps: u16) -> Answer
     }
 }
 
+// As `report`, where a refusal is an error.
 fn try_report(upload: &[u8], image: &[u8]) -> Result<Answer, Refusal>
     ensures { answer_of result ≡ report_answer upload.now image.now }
 {
@@ -111,6 +113,7 @@ fn lacks_room(view: &View, buffer: &[u8]) -> bool
     buffer.len() < 3 * listing::count_listed(view)
 }
 
+// As `list`, where a refusal is an error.
 fn try_list(upload: &[u8], image: &[u8], buffer: &mut [u8]) -> Result<Answer, Refusal>
     ensures value { answer_of result ≡ list_answer upload.now image.now buffer.old }
     ensures buffer_after { buffer.new ≡ list_buffer upload.now image.now buffer.old }
@@ -132,6 +135,7 @@ pub fn list(upload: &[u8], image: &[u8], buffer: &mut [u8]) -> Answer
     answered(try_list(upload, image, buffer))
 }
 
+// As `fresh`, where a refusal is an error.
 fn try_fresh(upload: &[u8], image: &mut [u8]) -> Result<Answer, Refusal>
     ensures value { answer_of result ≡ fresh_answer upload.now image.old }
     ensures image_after { image.new ≡ fresh_image upload.now image.old }
@@ -178,6 +182,7 @@ fn act(cabling: &Cabling, image: &mut [u8], kind: u8, x: u8, y: u8) -> Result<()
     Ok(())
 }
 
+// As `step`, where a refusal of the upload or the image is an error.
 fn try_step(upload: &[u8], image: &mut [u8], kind: u8, x: u8, y: u8) -> Result<Answer, Refusal>
     ensures value { answer_of result ≡ step_answer upload.now image.old kind x y }
     ensures image_after { image.new ≡ step_image upload.now image.old kind x y }
@@ -259,6 +264,7 @@ fn replay_on(cabling: &Cabling, image: &mut [u8]) -> Answer
     }
 }
 
+// As `replay`, where a refusal of the upload is an error.
 fn try_replay(upload: &[u8]) -> Result<Answer, Refusal>
     ensures { answer_of result ≡ replay_answer upload.now }
 {
@@ -315,6 +321,7 @@ fn run_into(cabling: &Cabling, image: &mut [u8]) -> u16
     most as u16
 }
 
+// As `run`, where a refusal is an error.
 fn try_run(upload: &[u8], image: &mut [u8]) -> Result<Answer, Refusal>
     ensures value { answer_of result ≡ run_answer upload.now image.old }
     ensures image_after { image.new ≡ run_image upload.now image.old }

@@ -8,7 +8,7 @@ ghost use Rattle.paper.specs.Batch.{entry_answer};
 ghost use Rattle.paper.specs.Lines.{lines_answer, lines_buffer};
 ghost use Rattle.replay_c.specs.Word.{Carries};
 
-// The six numbers in one word.
+// The six numbers in one word, each where the C interface has it: `Carries` says this sum, and shifts would be no plainer.
 pub fn word(a: paper::Answer) -> u64
     ensures { Carries result a }
 {

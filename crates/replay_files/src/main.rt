@@ -1,4 +1,4 @@
-// Answers saved uploads: its arguments are file names, behind -q where it is to be silent on standard error.
+// Answers saved uploads: its arguments are file names, behind -q where it is to say nothing of how far it has come.
 // It prints a line for each file, and a last line that counts them.
 #![tactic(auto)]
 
@@ -98,7 +98,7 @@ fn line_of(name: &[u8], upload: Result<&[u8], Unanswered>, line: &mut [u8]) -> u
     }
 }
 
-// Writes the line of n bytes at the buffer's start, and nothing of one that had no room, which has 0.
+// Writes the line of n bytes at the buffer's start, and nothing of one that had no room, which has 0: None then, and where the writing fails.
 fn write_line(to: &impl Print, line: &[u8], n: usize) -> Option<()> {
     if n == 0 {
         return None;
@@ -134,7 +134,7 @@ impl Room {
         write_line(out, &self.line, n).ok_or(Fault::Totals)
     }
 
-    // Prints a line for each name, and the last line; every 1,000 files, says so on standard error.
+    // Prints a line for each name, and the last line; every 1,000 files, unless it is quiet, says so on standard error.
     fn print_all(
         &mut self,
         rt: &(impl Env + Files + Print),

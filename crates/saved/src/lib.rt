@@ -43,7 +43,7 @@ pub fn too_long(bytes: &[u8]) -> bool
     3328 < bytes.len()
 }
 
-// The line of a file that cannot be opened. This one and the next two differ only in their text, and each is a call of its own for the program.
+// The line of a file that cannot be opened. This one and the next two differ only in their text: each has its own definition, and one that picks the text by a number would be no plainer.
 pub fn unopened_line(name: &[u8], out: &mut [u8]) -> usize
     ensures { Placed (unopened_line name.now) out.old out.new result }
 {
@@ -68,8 +68,7 @@ pub fn too_long_line(name: &[u8], out: &mut [u8]) -> usize
 fn six_numbers(answer: Answer, buffer: &mut [u8; 64]) -> &[u8]
     ensures { result.now ≡ numbers answer }
 {
-    // By `as`: with `from` the place would have a second name in each proof.
-    let n = lines::write(&[answer], buffer).steps as usize;
+    let n = usize::from(lines::write(&[answer], buffer).steps);
     &buffer[1..n]
 }
 

@@ -18,14 +18,14 @@ mod refusal;
 
 pub use refusal::Refusal;
 
-// n, m and a are in range: the bounds stand as document 01 has them, one beside another.
+// n, m and a are in range: the bounds stand as document 01 has them, one beside another; `contains` would say only the first pair of them, and is no plainer.
 fn in_range(n: usize, m: usize, a: usize) -> bool
     ensures { result ≡ in_range n m a }
 {
     ((1 <= n) & (n <= 63)) & ((m <= 126) & (a <= 1024))
 }
 
-// Every node has its own number as label. Numbers below 64 or 127 are cast to bytes here and below: std has no `From` to a narrower type.
+// Every node has its own number as label. Numbers below 63 or 126 are cast to bytes here and below: std has no `From` to a narrower type.
 fn number_nodes(labels: &mut [u8])
     requires { length labels.old ≤ 63 }
     ensures { Rewritten own_number labels.old labels.new }
@@ -40,7 +40,9 @@ fn relabel(labels: &mut [u8], second: u8, first: u8)
     ensures { Rewritten (renamed second first) labels.old labels.new }
 {
     for label in labels.iter_mut() {
-        *label = if *label == second { first } else { *label };
+        if *label == second {
+            *label = first;
+        }
     }
 }
 
@@ -83,7 +85,7 @@ impl<'a> Exact<'a> {
         Ok(Exact { upload })
     }
 
-    // Link i repeats an earlier one. With no early exit the loop is done in vectors: with `any` it takes up to a fifth longer.
+    // Link i repeats an earlier one. With no early exit the loop is done in vectors: with `any` it takes up to a fifth longer, past the bar of docs/SPEED.md.
     fn repeats(&self, i: usize) -> bool
         requires { i < (table self.now).links }
         ensures { result ≡ repeats (table self.now) i }

@@ -45,7 +45,8 @@ pub struct Upload<'a> {
 }
 
 impl Upload<'_> {
-    // n, m and a stand in the header with a name each, and have an accessor each.
+    // An accessor for each number of the header: their clauses name three definitions, and one that picks among them by a number would be no plainer.
+
     // n, the number of nodes.
     pub fn nodes(&self) -> usize
         ensures { (result ≡ nodes_of self.now.bytes.now) × (result < 256) }
@@ -75,7 +76,7 @@ impl Upload<'_> {
         byte(self.bytes, 4 + 2 * i + usize::from(second))
     }
 
-    // Link i joins x and y, either way round: its two bytes as one number are theirs, which is measured faster than two pairs of comparisons.
+    // Link i joins x and y, either way round: its two bytes as one number are theirs. By nodes there would be four comparisons in place of two, and it would be no plainer.
     pub fn joins(&self, x: usize, y: usize, i: usize) -> bool
         requires { (link_at i + 2 ≤ length self.now.bytes.now) × (x < 256) × (y < 256) }
         ensures { result ≡ joins (table_of self.now.bytes.now) x y i }

@@ -4,14 +4,14 @@ use Rattle.saved.proofs.six_numbers.Goals as goal
 
 pub slice_bounds-result-count : goal.slice_bounds-result-count
 slice_bounds-result-count c =
-    omega (arith, (written c.args.answer c.write-n.result c.args.buffer.now _ c.write-n.ensures c.told-buffer).some)
+    omega (arith, c.from-n.ensures, (written c.args.answer c.write.result c.args.buffer.now _ c.write.ensures c.told-buffer).some)
 
 pub slice_bounds-result-start : goal.slice_bounds-result-start
 slice_bounds-result-start c =
-    omega (arith, (written c.args.answer c.write-n.result c.args.buffer.now _ c.write-n.ensures c.told-buffer).some)
+    omega (arith, c.from-n.ensures, (written c.args.answer c.write.result c.args.buffer.now _ c.write.ensures c.told-buffer).some)
 
 pub slice_bounds-result-end : goal.slice_bounds-result-end
-slice_bounds-result-end c = (written c.args.answer c.write-n.result c.args.buffer.now _ c.write-n.ensures c.told-buffer).most
+slice_bounds-result-end c = rw c.from-n.ensures (written c.args.answer c.write.result c.args.buffer.now _ c.write.ensures c.told-buffer).most
 
 pub returns : goal.returns
-returns c = (written c.args.answer c.write-n.result c.args.buffer.now _ c.write-n.ensures c.told-buffer).text
+returns c = rw c.from-n.ensures (written c.args.answer c.write.result c.args.buffer.now _ c.write.ensures c.told-buffer).text
