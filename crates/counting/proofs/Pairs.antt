@@ -1,4 +1,4 @@
--- Two numbers below 256 as one: it tells both.
+-- Two numbers below 256 as one: it tells both. Nothing here cites it; docs/PORT.md names it.
 use Prim.Native.Nat.{ℕ, ◌+◌, ◌*◌, ◌<◌}
 use mathlib.Core.Bool.{Bool, true, false, ◌&&◌}
 use mathlib.Core.Path.{◌≡◌, refl}

@@ -76,13 +76,14 @@ impl Upload<'_> {
         byte(self.bytes, 4 + 2 * i + usize::from(second))
     }
 
-    // Link i joins x and y, either way round: its two bytes as one number are theirs. By nodes there would be four comparisons in place of two, and it would be no plainer.
+    // Link i joins x and y, either way round.
     pub fn joins(&self, x: usize, y: usize, i: usize) -> bool
         requires { (link_at i + 2 ≤ length self.now.bytes.now) × (x < 256) × (y < 256) }
         ensures { result ≡ joins (table_of self.now.bytes.now) x y i }
     {
-        let pair = self.end(i, false) + 256 * self.end(i, true);
-        (pair == x + 256 * y) | (pair == y + 256 * x)
+        let p = self.end(i, false);
+        let q = self.end(i, true);
+        ((p == x) & (q == y)) | ((p == y) & (q == x))
     }
 
     // Where the byte of a direction stands in an image.
