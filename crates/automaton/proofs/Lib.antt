@@ -1,5 +1,6 @@
 pub mod Possible
 pub mod Lacking
+pub mod Moves
 pub mod Taken
 pub mod Found
 pub mod Counted

@@ -8,6 +8,8 @@ use Rattle.automaton.proofs.link_possible
 use Rattle.automaton.proofs.try_node
 use Rattle.automaton.proofs.try_link
 use Rattle.automaton.proofs.report_of
+use Rattle.automaton.proofs.U8FromRefused.from as from_refused
+use Rattle.automaton.proofs.U8FromOutcome.from as from_outcome
 
 pub node_possible_determined : Determined node_possible.Kinds.ps node_possible.Kinds.r node_possible.Reads.Pre node_possible.Reads.Learnt
 node_possible_determined κs a pre z z' w w' p q = (same p q, refl)
@@ -30,3 +32,9 @@ report_of_determined κs a pre z z' w w' p q = (
   },
   refl,
 )
+
+pub from_refused_determined : Determined from_refused.Kinds.ps from_refused.Kinds.r from_refused.Reads.Pre from_refused.Reads.Learnt
+from_refused_determined κs a pre z z' w w' p q = (same p q, refl)
+
+pub from_outcome_determined : Determined from_outcome.Kinds.ps from_outcome.Kinds.r from_outcome.Reads.Pre from_outcome.Reads.Learnt
+from_outcome_determined κs a pre z z' w w' p q = (same p q, refl)

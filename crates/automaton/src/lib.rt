@@ -5,7 +5,7 @@
 ghost use Rattle.std.specs.Prelude.{◌≡◌, ◌<◌, ◌≤◌, leb, true};
 ghost use Rattle.counting.specs.Count.{some};
 ghost use Rattle.paper.specs.Steps.{unheard, possible};
-ghost use Rattle.paper.specs.Actions.{link_between, node_step, link_step, read_node, read_link};
+ghost use Rattle.paper.specs.Actions.{joins, link_between, node_step, link_step, read_node, read_link};
 ghost use Rattle.paper.specs.Report.{moves_at, moves_on, moving, roots, root_of, waiting_count, outcome_at_rest, outcome_of};
 ghost use Rattle.upload.specs.Kinds.{node_number, link_number};
 ghost use Rattle.cabling.specs.Cables.{cables};
@@ -125,12 +125,21 @@ pub fn try_node(view: &View, kind: NodeKind, x: usize, y: usize) -> Result<Step,
     }
 }
 
+// Link i joins x and y. Of most links the first node is neither, and no more is asked.
+fn joined_by(cabling: &Cabling, x: usize, y: usize, i: usize) -> bool
+    requires { (i < (cables cabling.now).links) × (x < 256) × (y < 256) }
+    ensures { result ≡ joins (cables cabling.now) x y i }
+{
+    let first = cabling.upload.end(i, false);
+    ((first == x) | (first == y)) && cabling.upload.joins(x, y, i)
+}
+
 // The first link that joins x and y.
 fn link_between(cabling: &Cabling, x: usize, y: usize) -> Option<usize>
     requires { (x < 256) × (y < 256) }
     ensures { Told (cables cabling.now).links (cables cabling.now).links (link_between (cables cabling.now) x y) result }
 {
-    (0..cabling.links()).find(|&i| cabling.upload.joins(x, y, i))
+    (0..cabling.links()).find(|&i| joined_by(cabling, x, y, i))
 }
 
 // The direction from x to y.
@@ -145,7 +154,8 @@ fn direction_from(cabling: &Cabling, x: usize, y: usize) -> Result<Direction, Re
     Ok(cabling.direction_from(link, x))
 }
 
-// What an action comes to whose kind is that of a step on a direction.
+// What an action comes to whose kind is that of a step on a direction. In line, as `replay`'s `act` is.
+#[inline(always)]
 pub fn try_link(view: &View, kind: LinkKind, x: usize, y: usize) -> Result<Step, Refused>
     ensures { TriedAs (table view.now) (shown view.now) (read_link (table view.now) (link_number kind) x y) result }
 {

@@ -2,8 +2,10 @@
 use Prim.Native.Nat.{ℕ, ◌≤◌, ◌<◌}
 use mathlib.Core.Path.{◌≡◌}
 use mathlib.Core.List.{List}
+use native.Mathlib.Omega.{arith}
 use borrow.Author.Tests.{lt-ltb, le-ltb}
-use lib.ListN.{length}
+use lib.ListN.{length, take}
+use lib.Seq.{sets, lt-length-sets}
 use Rattle.paper.specs.Calls.{over}
 use Rattle.lines.specs.Output.{text_answer, text_buffer, written, no_room, Output}
 
@@ -19,3 +21,7 @@ with_room {text} {before} {after} e h =
       answered = rw (le-ltb (length before) (length text) h);
       left = rw (le-ltb (length before) (length text) h) e;
     }
+
+-- after some bytes of a text there is room for the next
+pub next_fits : (text before : List ℕ) (n : ℕ) → length text ≤ length before → n < length text → n < length (sets before 0 (take n text))
+next_fits text before n room h = lt-length-sets before 0 (take n text) (omega arith)

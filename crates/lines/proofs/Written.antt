@@ -11,7 +11,7 @@ use Rattle.lines.specs.declared.Text.{Text}
 use Rattle.lines.specs.Text.{Writes}
 
 -- of `lines` and `listing` neither rests on the other, and std has no law of `sets` behind another: it stands in both
-sets_append : (o : List ℕ) (at : ℕ) (l m : List ℕ) → sets o at (l ++ m) ≡ sets (sets o at l) (at + length l) m
+pub sets_append : (o : List ℕ) (at : ℕ) (l m : List ℕ) → sets o at (l ++ m) ≡ sets (sets o at l) (at + length l) m
 sets_append o at [] m = rw (add-zero at)
 sets_append o at (b ∷ l) m = sets_append (set o at b) (suc at) l m ∙ ap (λ (n : ℕ). sets (sets (set o at b) (suc at) l) n m) (suc-add at (length l) ∙ sym (add-suc at (length l)))
 

@@ -20,7 +20,7 @@ sets_append (a ∷ l) k o at =
     let step : at + suc (length l) ≡ suc at + length l = omega arith in
     rw step (sets_append l k (set o at a) (suc at))
 
-wrote_more : {o p q : List ℕ} {a b c : ℕ} (l k : List ℕ) → Wrote o a l p b → Wrote p b k q c → Wrote o a (l ++ k) q c
+pub wrote_more : {o p q : List ℕ} {a b c : ℕ} (l k : List ℕ) → Wrote o a l p b → Wrote p b k q c → Wrote o a (l ++ k) q c
 wrote_more {o} {p} {q} {a} {b} {c} l k first second =
     record {
       bytes =

@@ -255,12 +255,7 @@ fn replay_on(cabling: &Cabling, image: &mut [u8]) -> Answer
     };
     match replayed {
         Ok(steps) => reporting(&view, 0, 0, steps),
-        Err(stopped) => reporting(
-            &view,
-            u8::from(stopped.refused),
-            stopped.place,
-            stopped.place,
-        ),
+        Err(Stopped { refused, place }) => reporting(&view, u8::from(refused), place, place),
     }
 }
 
@@ -274,7 +269,8 @@ fn try_replay(upload: &[u8]) -> Result<Answer, Refusal>
     Ok(replay_on(&cabling, &mut image[..length]))
 }
 
-// Replay: the actions of an upload, from the fresh state.
+// Replay: the actions of an upload, from the fresh state. A call of its own, as the reader is: inside a loop over uploads their loops would go through memory.
+#[inline(never)]
 pub fn replay(upload: &[u8]) -> Answer
     ensures { result ≡ replay_answer upload.now }
 {

@@ -3,12 +3,13 @@ use Prim.Native.Nat.{ℕ, ◌+◌, ◌≤◌, ◌<◌}
 use mathlib.Core.Path.{◌≡◌, ap, sym, ◌∙◌}
 use mathlib.Core.List.{List, [], ◌∷◌, ◌++◌}
 use native.Mathlib.Omega.{arith}
+use borrow.Author.Tests.{lt-ltb}
 use lib.ListN.{length, take, drop, get_or, length-append}
 use Rattle.std.specs.Prelude.{fold}
 use Rattle.std.specs.Borrow.{Bor}
 use Rattle.std.proofs.lemmas.List.{take-append-drop}
 use Rattle.std.proofs.lemmas.List.Sums.{fold-append, fold_more}
-use Rattle.saved.specs.Placed.{text_of}
+use Rattle.saved.specs.Placed.{Placed, text_of}
 
 -- what stands past the end of a list of texts
 abbrev pub past : Bor (List ℕ)
@@ -32,3 +33,8 @@ text_most texts i =
 -- one text more, and no more than all
 pub next_text : (texts : List (Bor (List ℕ))) (i : ℕ) → i < length texts → (length (text_of (take (i + 1) texts)) ≡ length (text_of (take i texts)) + length (get_or texts i past).now) × (length (text_of (take (i + 1) texts)) ≤ length (text_of texts))
 next_text texts i h = (length-text_more texts i h, text_most texts (i + 1))
+
+-- a text that has no room
+pub room_is_short : (text before : List ℕ) → length before < length text → Placed text before before 0
+room_is_short text before h =
+    record { counted = rw (lt-ltb (length before) (length text) h); left = rw (lt-ltb (length before) (length text) h) }

@@ -2,15 +2,30 @@
 use Prim.Native.Nat.{ℕ, ◌≤◌, ◌<◌}
 use mathlib.Core.Bool.{Bool, true, false}
 use mathlib.Core.Path.{◌≡◌, refl}
+use mathlib.Core.List.{[], ◌∷◌}
 use native.Mathlib.Decide.{dec_lt}
 use native.Mathlib.Omega.{arith}
 use borrow.Author.Tests.{eqb-false}
 use Rattle.paper.specs.Table.{Table}
-use Rattle.paper.specs.Refusals.{names_no_node, joins_itself, repeats, link_refusal}
+use Rattle.paper.specs.Refusals.{Refusal, given, first, names_no_node, joins_itself, repeats, link_refusal}
+use Rattle.table.specs.Checked.{link_number}
 use Rattle.table.specs.ExactlyWhen.{NamesNoNode, JoinsItself, Repeats, LinkPasses}
 use Rattle.table.proofs.Tells.{holds, fails, decided, tells_names, tells_itself, tells_repeats}
 
+-- the three tests of a link in their order
+abbrev tried : Bool → Bool → Bool → ℕ → Refusal
+tried names itself again i = first (given names 5 i ∷ given itself 6 i ∷ given again 7 i ∷ [])
+
+tried_number : (a b c : Bool) (i : ℕ) → link_number a b c ≡ (tried a b c i).number
+tried_number true b c i = refl
+tried_number false true c i = refl
+tried_number false false true i = refl
+tried_number false false false i = refl
+
 module _ (t : Table) (i : ℕ) where
+  pub link_number_is : link_number (names_no_node t i) (joins_itself t i) (repeats t i) ≡ (link_refusal t i).number
+  link_number_is = tried_number (names_no_node t i) (joins_itself t i) (repeats t i) i
+
   pub link_names : NamesNoNode t i → link_refusal t i ≡ record { number = 5; place = i }
   link_names p = rw (holds (names_no_node t i) (tells_names t i) p)
 

@@ -1,8 +1,12 @@
 -- What checks 3 to 8 of an upload come to, given from the paper's definitions.
-use Rattle.std.specs.Prelude.{ℕ, ◌≤◌, not, ◌≡◌, List, [], ◌∷◌, length}
+use Rattle.std.specs.Prelude.{ℕ, ◌≤◌, not, cond, Bool, ◌≡◌, List, [], ◌∷◌, length}
 use Rattle.paper.specs.Upload.{nodes_of, links_of, actions_of, exact_length}
 use Rattle.paper.specs.Table.{table_of, one_piece}
 use Rattle.paper.specs.Refusals.{Refusal, first, given, links_refusal}
+
+-- the number of a link by its three tests: names a node of n or more, joins a node to itself, repeats an earlier link
+abbrev pub link_number : Bool → Bool → Bool → ℕ
+link_number unnamed itself again = cond unnamed 5 (cond itself 6 (cond again 7 0))
 
 -- check 8
 abbrev pub piece_refusal : List ℕ → Refusal

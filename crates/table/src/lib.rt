@@ -169,7 +169,8 @@ impl<'a> Exact<'a> {
     }
 }
 
-// Checks 3 to 8 of an upload, in the paper's order.
+// Checks 3 to 8 of an upload, in the paper's order. A call of its own: in line its loops would go through memory.
+#[inline(never)]
 pub fn check(upload: &[u8]) -> Result<Cabling<'_>, Refusal>
     ensures told { told result ≡ table_refusal upload.now }
     ensures same { IfOk result (λ c. c.upload.bytes ≡ upload.entry) }
