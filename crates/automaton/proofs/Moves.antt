@@ -13,6 +13,7 @@ either_waits true true p = refl
 either_waits true false p = refl
 either_waits false c p = refl
 
+-- docs/PORT.md names it
 pub moves_on_is : (t : Table) (s : State) (i : ℕ) (b : Bool) {c p : Bool} →
     i < t.links →
     c ≡ carries (s.message i b) →

@@ -22,6 +22,6 @@ with_room {text} {before} {after} e h =
       left = rw (le-ltb (length before) (length text) h) e;
     }
 
--- after some bytes of a text there is room for the next
+-- after some bytes of a text there is room for the next; docs/PORT.md names it
 pub next_fits : (text before : List ℕ) (n : ℕ) → length text ≤ length before → n < length text → n < length (sets before 0 (take n text))
 next_fits text before n room h = lt-length-sets before 0 (take n text) (omega arith)

@@ -34,7 +34,7 @@ text_most texts i =
 pub next_text : (texts : List (Bor (List ℕ))) (i : ℕ) → i < length texts → (length (text_of (take (i + 1) texts)) ≡ length (text_of (take i texts)) + length (get_or texts i past).now) × (length (text_of (take (i + 1) texts)) ≤ length (text_of texts))
 next_text texts i h = (length-text_more texts i h, text_most texts (i + 1))
 
--- a text that has no room
+-- a text that has no room; docs/PORT.md names it
 pub room_is_short : (text before : List ℕ) → length before < length text → Placed text before before 0
 room_is_short text before h =
     record { counted = rw (lt-ltb (length before) (length text) h); left = rw (lt-ltb (length before) (length text) h) }

@@ -23,6 +23,7 @@ tried_number false false true i = refl
 tried_number false false false i = refl
 
 module _ (t : Table) (i : ℕ) where
+  -- docs/PORT.md names it
   pub link_number_is : link_number (names_no_node t i) (joins_itself t i) (repeats t i) ≡ (link_refusal t i).number
   link_number_is = tried_number (names_no_node t i) (joins_itself t i) (repeats t i) i
 
